@@ -1,0 +1,104 @@
+-- What each call answers, and what it leaves in memory that is lent to it.
+use Prim.Native.Nat.{ℕ, zero, suc, _+_}
+use mathlib.Core.Bool.{cond}
+use mathlib.Core.List.{List, [], _∷_, _++_}
+use mathlib.Core.Option.{Option, none, some}
+use lib.Dec.{eqb}
+use lib.ListN.{length, take, drop}
+use Rattle.rules.specs.File.{recordBytes}
+use Rattle.rules.specs.Line.{lineOf, trainOf}
+use Rattle.rules.specs.Run.{runRow}
+use Rattle.rules.specs.Time.{runTimes}
+use Rattle.rules.specs.Hold.{Hold}
+use Rattle.rules.specs.Sheet.{Sheet, fresh, leastStart, blockNamed, sheetAfter}
+use Rattle.rules.specs.Refusal.{refusal, firstBroken, fileRules, trainRules, runRules, countRule, addingRules}
+
+-- a buffer with the entries from place `at` on replaced by the values; the others stay
+unfoldable pub written : List ℕ → ℕ → List ℕ → List ℕ
+written buffer at values = take at buffer ++ (values ++ drop (at + length values) buffer)
+
+-- ---- file calls: 0, or the number of refusal
+
+unfoldable pub fileRefusal : List ℕ → ℕ
+fileRefusal file = refusal (fileRules file)
+
+unfoldable pub trainRefusal : List ℕ → ℕ → ℕ
+trainRefusal file k = refusal (trainRules file k)
+
+-- the part handed out for train k: its record, or the empty part on a refusal
+unfoldable pub trainRecord : List ℕ → ℕ → List ℕ
+trainRecord file k = cond (eqb (trainRefusal file k) 0) (recordBytes file k) []
+
+-- the run call and the hold call, by the lengths of the lent buffers
+unfoldable pub runRefusal : List ℕ → ℕ → ℕ → ℕ → ℕ
+runRefusal file k speeds times = refusal (runRules file k speeds times)
+
+-- the lent buffers after the run call and the hold call: the first P entries are the run's; on a refusal every value is kept
+unfoldable pub speedsAfter : List ℕ → ℕ → List ℕ → List ℕ → List ℕ
+speedsAfter file k speeds times =
+    cond (eqb (runRefusal file k (length speeds) (length times)) 0) (written speeds 0 (runRow (lineOf file) (trainOf file k))) speeds
+
+unfoldable pub timesAfter : List ℕ → ℕ → List ℕ → List ℕ → List ℕ
+timesAfter file k speeds times =
+    cond (eqb (runRefusal file k (length speeds) (length times)) 0) (written times 0 (runTimes (lineOf file) (trainOf file k))) times
+
+-- ---- the opening call: a fresh sheet and the number 0, or the number 12 and a sheet of no blocks
+
+pub record Opening : Type 0 where
+  pub number : ℕ
+  pub sheet : Sheet
+
+unfoldable pub opened : ℕ → Opening
+opened n = cond (countRule n) (record { number = 0; sheet = fresh n }) (record { number = 12; sheet = fresh 0 })
+
+-- ---- the adding call
+
+-- the start and the block named, or the number of refusal
+pub data Answer : Type 0 where
+  accepted : ℕ → ℕ → Answer
+  refused : ℕ → Answer
+
+pub record Addition : Type 0 where
+  pub answer : Answer
+  pub sheet : Sheet
+
+abbrev pub accept : Sheet → Hold → Addition
+accept s h =
+    record {
+      answer = accepted (leastStart s h) (blockNamed s h (leastStart s h));
+      sheet = sheetAfter s h (leastStart s h);
+    }
+
+-- a refusal leaves the sheet as it was
+abbrev pub refuse : Sheet → ℕ → Addition
+refuse s n = record { answer = refused n; sheet = s }
+
+abbrev pub addition : Sheet → Hold → Option ℕ → Addition
+addition s h none = accept s h
+addition s h (some n) = refuse s n
+
+-- a call is accepted exactly when no rule is broken; else the first broken rule in checking order gives the number
+unfoldable pub added : Sheet → Hold → Addition
+added s h = addition s h (firstBroken (addingRules s h))
+
+-- ---- the headway call: the second's start on a sheet of these two, or the first refusal met
+
+pub data Headway : Type 0 where
+  headwayOf : ℕ → Headway
+  noHeadway : ℕ → Headway
+
+-- an accepted call goes on to what follows; a refusal is passed on
+abbrev pub passOn : Answer → Headway → Headway
+passOn (accepted start block) next = next
+passOn (refused n) next = noHeadway n
+
+abbrev pub startOrRefusal : Answer → Headway
+startOrRefusal (accepted start block) = headwayOf start
+startOrRefusal (refused n) = noHeadway n
+
+unfoldable pub headway : Hold → Hold → Headway
+headway first second =
+    let opening = opened (first .blocks) in
+    let one = added (opening .sheet) first in
+    let two = added (one .sheet) second in
+    cond (eqb (opening .number) 0) (passOn (one .answer) (startOrRefusal (two .answer))) (noHeadway (opening .number))

@@ -1,0 +1,46 @@
+-- Document 01, "The hold of a block": approach point and hold record. Times are in microseconds.
+use Prim.Native.Nat.{ℕ, suc, _+_, _-_, _*_}
+use mathlib.Core.Bool.{cond}
+use mathlib.Core.List.{List}
+use lib.Dec.{leb, ltb}
+use lib.ListN.{length}
+use Rattle.rules.specs.Count.{entry, row, lastBelow}
+use Rattle.rules.specs.Line.{Line, Train}
+use Rattle.rules.specs.Run.{brakingLoss, trainCells, runRow}
+use Rattle.rules.specs.Time.{arrival, departure}
+
+-- A hold record: the block count, and for each block the beginning and the end of its hold, which contains its beginning and not
+-- its end.
+pub record Hold : Type 0 where
+  pub blocks : ℕ
+  pub begins : List ℕ
+  pub ends : List ℕ
+
+-- The approach point of a block from b: the greatest i at most b whose squared speed is at most G times (b - i), or 0 if there is none.
+unfoldable pub approachPoint : List ℕ → ℕ → ℕ → ℕ
+approachPoint speeds loss b = lastBelow (suc b) (λ i. leb (entry speeds i) (loss * (b - i)))
+
+-- the hold of a block from b begins at the departure from the approach point
+unfoldable pub holdBegin : Line → Train → List ℕ → ℕ → ℕ
+holdBegin l t speeds b = departure l t speeds (approachPoint speeds (brakingLoss l t) b)
+
+-- the hold of a block to e ends at the arrival at e + n, plus release time, set-up time and 5 seconds of communication
+unfoldable pub holdEnd : Line → Train → List ℕ → ℕ → ℕ
+holdEnd l t speeds e = arrival l t speeds (e + trainCells l t) + 100000 * l .release + 100000 * l .setUp + 5000000
+
+-- 32 places, of which those beyond the block count are 0
+unfoldable pub blockPlaces : ℕ → (ℕ → ℕ) → List ℕ
+blockPlaces count f = row (λ j. cond (ltb j count) (f j) 0) 32
+
+-- the hold record of a train with these speeds
+unfoldable pub holdWith : Line → Train → List ℕ → Hold
+holdWith l t speeds =
+    record {
+      blocks = length (l .blockStarts);
+      begins = blockPlaces (length (l .blockStarts)) (λ j. holdBegin l t speeds (entry (l .blockStarts) j));
+      ends = blockPlaces (length (l .blockStarts)) (λ j. holdEnd l t speeds (entry (l .blockEnds) j));
+    }
+
+-- the hold record of a train
+abbrev pub holdOf : Line → Train → Hold
+holdOf l t = holdWith l t (runRow l t)

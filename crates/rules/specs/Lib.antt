@@ -1,0 +1,15 @@
+-- The rules of document 01, a file for each of its parts, in the paper's order.
+pub mod Count
+pub mod File
+pub mod Reading
+pub mod Line
+pub mod Run
+pub mod Time
+pub mod Hold
+pub mod Sheet
+pub mod Refusal
+pub mod Calls
+pub mod Demand
+pub mod Text
+pub mod Admitted
+pub mod Meaning

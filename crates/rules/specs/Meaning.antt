@@ -1,0 +1,158 @@
+-- The sentences of document 01 as properties, in the paper's words. proofs/ shows that the definitions have them.
+use Prim.Native.Nat.{ℕ, zero, suc, _+_, _-_, _*_, _≤_, _<_, min}
+use mathlib.Core.Bool.{Bool, true, false}
+use mathlib.Core.List.{List, [], _∷_}
+use mathlib.Core.Option.{Option, none, some}
+use mathlib.Core.Path.{_≡_}
+use lib.ListN.{length, getD}
+use Rattle.rules.specs.Count.{entry}
+use Rattle.rules.specs.Line.{Line, Train}
+use Rattle.rules.specs.Run.{lastTop, trainCells, cellLimit, brakingLoss}
+use Rattle.rules.specs.Time.{departure, arrival}
+use Rattle.rules.specs.Hold.{Hold}
+use Rattle.rules.specs.Sheet.{Sheet, begin, end, freeTime}
+use Rattle.rules.specs.Refusal.{Rule, rule}
+
+-- x is a divided by b, rounded up: the least whole number that b times reaches a
+pub record IsRoundedUp (a b x : ℕ) : Type 0 where
+  pub enough : a ≤ x * b
+  pub least : (y : ℕ) → a ≤ y * b → x ≤ y
+
+-- ---- the run
+
+-- limit k holds in cell c: from the cell at its point up to the next limit's point
+pub record InForce (l : Line) (k c : ℕ) : Type 0 where
+  pub there : k < length (l .limitPoints)
+  pub begun : entry (l .limitPoints) k ≤ c
+  pub unended : suc k < length (l .limitPoints) → c < entry (l .limitPoints) (suc k)
+
+-- cell c is one of the cells i - n to i that exist
+pub record Covers (l : Line) (t : Train) (i c : ℕ) : Type 0 where
+  pub from-tail : i ≤ c + trainCells l t
+  pub to-head : c ≤ i
+  pub exists : suc c < l .points
+
+-- v is the lowest of the limits of the cells covered and the last band's top
+pub record IsCapSpeed (l : Line) (t : Train) (i v : ℕ) : Type 0 where
+  pub top : v ≤ lastTop t
+  pub limits : (c : ℕ) → Covers l t i c → v ≤ cellLimit l c
+  pub greatest : (u : ℕ) → u ≤ lastTop t → ((c : ℕ) → Covers l t i c → u ≤ cellLimit l c) → u ≤ v
+
+-- point i is the train's stop k
+pub record IsStop (t : Train) (k i : ℕ) : Type 0 where
+  pub there : k < length (t .stops)
+  pub here : entry (t .stops) k ≡ i
+
+-- w is the cap at point i
+pub record IsCap (l : Line) (t : Train) (i w : ℕ) : Type 0 where
+  pub at-stop : (k : ℕ) → IsStop t k i → w ≡ 0
+  pub elsewhere : ((k : ℕ) → IsStop t k i → ⊥) → (v : ℕ) × IsCapSpeed l t i v × (w ≡ 100 * v * (100 * v))
+
+-- the lesser of w with a band's gain and the square of 100 times its top
+abbrev pub bandPart : Line → Train → ℕ → ℕ → ℕ
+bandPart l t w k = min (w + entry (t .rates) k * 2592 * l .step) (100 * entry (t .tops) k * (100 * entry (t .tops) k))
+
+-- v is the greatest of the bands' parts
+pub record IsStep (l : Line) (t : Train) (w v : ℕ) : Type 0 where
+  pub each : (k : ℕ) → k < length (t .tops) → bandPart l t w k ≤ v
+  pub attained : (k : ℕ) × (k < length (t .tops)) × (v ≡ bandPart l t w k)
+
+-- r is the greatest whole number whose square is at most w
+pub record IsRoot (w r : ℕ) : Type 0 where
+  pub square : r * r ≤ w
+  pub greatest : (s : ℕ) → s * s ≤ w → s ≤ r
+
+-- d is the dwell at point i: that of a stop other than points 0 and P - 1, in microseconds, else 0
+pub record IsDwell (l : Line) (t : Train) (i d : ℕ) : Type 0 where
+  pub at-stop : (k : ℕ) → IsStop t k i → 0 < i → suc i < l .points → d ≡ 1000000 * entry (t .dwells) k
+  pub elsewhere : ((k : ℕ) → IsStop t k i → ⊥) → d ≡ 0
+  pub first : i ≡ 0 → d ≡ 0
+  pub last : suc i ≡ l .points → d ≡ 0
+
+-- ---- the hold of a block
+
+-- point i is at most b and its squared speed is at most G times (b - i)
+pub record Brakes (speeds : List ℕ) (loss b i : ℕ) : Type 0 where
+  pub before : i ≤ b
+  pub slow : entry speeds i ≤ loss * (b - i)
+
+-- a is the greatest such point, or 0 if there is none
+pub record IsApproachPoint (speeds : List ℕ) (loss b a : ℕ) : Type 0 where
+  pub greatest : (i : ℕ) → Brakes speeds loss b i → Brakes speeds loss b a × (i ≤ a)
+  pub none : ((i : ℕ) → Brakes speeds loss b i → ⊥) → a ≡ 0
+
+-- h is the hold record of a train with these speeds
+pub record IsHold (l : Line) (t : Train) (speeds : List ℕ) (h : Hold) : Type 0 where
+  pub count : h .blocks ≡ length (l .blockStarts)
+  pub begins :
+      (j : ℕ) → j < length (l .blockStarts) →
+      (a : ℕ) × IsApproachPoint speeds (brakingLoss l t) (entry (l .blockStarts) j) a × (begin h j ≡ departure l t speeds a)
+  pub ends :
+      (j : ℕ) → j < length (l .blockStarts) →
+      end h j ≡ arrival l t speeds (entry (l .blockEnds) j + trainCells l t) + 100000 * l .release + 100000 * l .setUp + 5000000
+  pub beyond : (j : ℕ) → length (l .blockStarts) ≤ j → (begin h j ≡ 0) × (end h j ≡ 0)
+
+-- ---- the sheet of starts
+
+-- start plus beginning is at least the free time in every block
+abbrev pub Clears : Sheet → Hold → ℕ → Type 0
+Clears s h start = (b : ℕ) → b < s .blocks → freeTime s b ≤ start + begin h b
+
+-- the least start, 0 or more, that clears
+pub record IsLeastStart (s : Sheet) (h : Hold) (start : ℕ) : Type 0 where
+  pub clears : Clears s h start
+  pub least : (other : ℕ) → Clears s h other → start ≤ other
+
+-- start plus beginning equals the free time of block b
+abbrev pub Binds : Sheet → Hold → ℕ → ℕ → Type 0
+Binds s h start b = start + begin h b ≡ freeTime s b
+
+-- the block named, counted from 1: the first that binds, or 0 if the start is 0. A start above 0 always names one.
+pub record IsBlockNamed (s : Sheet) (h : Hold) (start block : ℕ) : Type 0 where
+  pub at-zero : start ≡ 0 → block ≡ 0
+  pub first :
+      0 < start →
+      (b : ℕ) × (b < s .blocks) × (block ≡ b + 1) × Binds s h start b × ((c : ℕ) → c < b → Binds s h start c → ⊥)
+
+-- the sheet after an addition at this start
+pub record IsSheetAfter (s : Sheet) (h : Hold) (start : ℕ) (after : Sheet) : Type 0 where
+  pub blocks : after .blocks ≡ s .blocks
+  pub trains : after .trains ≡ s .trains + 1
+  pub within : (b : ℕ) → b < s .blocks → b < length (s .free) → freeTime after b ≡ start + end h b
+  pub beyond : (b : ℕ) → s .blocks ≤ b → freeTime after b ≡ freeTime s b
+  pub places : length (after .free) ≡ length (s .free)
+
+-- ---- numbers of refusal
+
+-- past the end of a list of rules
+abbrev pub noRule : Rule
+noRule = rule 0 true
+
+-- the first broken rule in checking order gives the number, and there is none exactly if no rule is broken
+pub record IsFirstBroken (rules : List Rule) (o : Option ℕ) : Type 0 where
+  pub none-broken : o ≡ none → (i : ℕ) → i < length rules → getD rules i noRule .kept ≡ true
+  pub all-kept : ((i : ℕ) → i < length rules → getD rules i noRule .kept ≡ true) → o ≡ none
+  pub found :
+      (n : ℕ) → o ≡ some n →
+      (i : ℕ) × (i < length rules) × (getD rules i noRule .number ≡ n) × (getD rules i noRule .kept ≡ false) × ((j : ℕ) → j < i → getD rules j noRule .kept ≡ true)
+
+-- the number of refusal is 0 exactly if no rule is broken, and otherwise the lowest number of a broken rule
+pub record IsLowestBroken (rules : List Rule) (n : ℕ) : Type 0 where
+  pub none-broken : n ≡ 0 → (i : ℕ) → i < length rules → getD rules i noRule .kept ≡ true
+  pub all-kept : ((i : ℕ) → i < length rules → getD rules i noRule .kept ≡ true) → n ≡ 0
+  pub broken : (n ≡ 0 → ⊥) → (i : ℕ) × (i < length rules) × (getD rules i noRule .number ≡ n) × (getD rules i noRule .kept ≡ false)
+  pub lowest : (i : ℕ) → i < length rules → getD rules i noRule .kept ≡ false → n ≤ getD rules i noRule .number
+
+-- ---- text
+
+-- the value of decimal digits, given what stands in front of them
+unfoldable pub valueFrom : ℕ → List ℕ → ℕ
+valueFrom before [] = before
+valueFrom before (d ∷ ds) = valueFrom (10 * before + (d - 48)) ds
+
+-- ds are the decimal digits of n, the most significant first, with no zero in front
+pub record IsDecimal (n : ℕ) (ds : List ℕ) : Type 0 where
+  pub value : valueFrom 0 ds ≡ n
+  pub some-digit : 1 ≤ length ds
+  pub digits : (i : ℕ) → i < length ds → (48 ≤ entry ds i) × (entry ds i ≤ 57)
+  pub no-zero-in-front : 1 < length ds → 48 < entry ds 0

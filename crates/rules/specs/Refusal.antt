@@ -1,0 +1,159 @@
+-- Document 01, "Numbers of refusal, in checking order". Each test passes where its rule is kept.
+use Prim.Native.Nat.{ℕ, _+_, _-_, _*_, _^_}
+use mathlib.Core.Bool.{Bool, not, cond}
+use mathlib.Core.List.{List, [], _∷_, _++_}
+use mathlib.Core.Option.{Option, none, some}
+use lib.Dec.{leb, ltb, eqb}
+use lib.ListN.{length}
+use Rattle.rules.specs.Count.{_and_, entry, every, within, allWithin, belowBy, risesBy}
+use Rattle.rules.specs.File.{trainCount, announcedEnd}
+use Rattle.rules.specs.Line.{Line, Train, lineOf, trainOf}
+use Rattle.rules.specs.Run.{trainCells}
+use Rattle.rules.specs.Hold.{Hold}
+use Rattle.rules.specs.Sheet.{Sheet, begin, end, freeTime}
+
+-- ---- a list of numbered rules, in checking order
+
+pub record Rule : Type 0 where
+  pub number : ℕ
+  pub kept : Bool
+
+abbrev pub rule : ℕ → Bool → Rule
+rule number kept = record { number = number; kept = kept }
+
+-- the number of the first broken rule, if there is one
+unfoldable pub firstBroken : List Rule → Option ℕ
+firstBroken [] = none
+firstBroken (r ∷ rs) = cond (r .kept) (firstBroken rs) (some (r .number))
+
+-- the number of a refusal, and 0 where there is none
+abbrev pub numberOr0 : Option ℕ → ℕ
+numberOr0 none = 0
+numberOr0 (some n) = n
+
+unfoldable pub refusal : List Rule → ℕ
+refusal rules = numberOr0 (firstBroken rules)
+
+-- ---- the rules of the file
+
+-- 1. The file does not end before something that its sizes, taken without their limits, announce.
+unfoldable pub whole : List ℕ → Bool
+whole file = leb (announcedEnd file) (length file)
+
+-- 2. No bytes follow the last announced train.
+unfoldable pub nothingAfter : List ℕ → Bool
+nothingAfter file = leb (length file) (announcedEnd file)
+
+-- 3. P, L, K, B, T, each class, length, A and S are within their limits.
+unfoldable pub lineSizes : Line → ℕ → Bool
+lineSizes l trains =
+    within 3 4096 (l .points)
+    and within 1 100 (l .step)
+    and within 1 64 (length (l .limits))
+    and within 1 32 (length (l .blockStarts))
+    and within 1 64 trains
+
+unfoldable pub trainSizes : Train → Bool
+trainSizes t =
+    within 0 2 (t .class)
+    and within 1 1000 (t .trainLength)
+    and within 1 8 (length (t .tops))
+    and within 0 32 (length (t .stops))
+
+-- 4. Limit points begin at 0, strictly rise and do not exceed P - 2.
+unfoldable pub limitPointsRule : Line → Bool
+limitPointsRule l =
+    eqb (entry (l .limitPoints) 0) 0
+    and risesBy 1 (length (l .limitPoints)) (entry (l .limitPoints))
+    and allWithin 0 (l .points - 2) (length (l .limitPoints)) (entry (l .limitPoints))
+
+-- 5. Each limit is 1 to 300.
+unfoldable pub limitsRule : Line → Bool
+limitsRule l = allWithin 1 300 (length (l .limits)) (entry (l .limits))
+
+-- 6. The first block starts at 0, each start is below its end, no start lies before the previous end, and no end exceeds P - 1.
+unfoldable pub blocksRule : Line → Bool
+blocksRule l =
+    eqb (entry (l .blockStarts) 0) 0
+    and belowBy 1 (length (l .blockStarts)) (entry (l .blockStarts)) (entry (l .blockEnds))
+    and belowBy 0 (length (l .blockStarts) - 1) (entry (l .blockEnds)) (λ i. entry (l .blockStarts) (i + 1))
+    and allWithin 0 (l .points - 1) (length (l .blockEnds)) (entry (l .blockEnds))
+
+-- 7. Band tops strictly rise within 1 to 300, and each rate is 1 to 200.
+unfoldable pub bandsRule : Train → Bool
+bandsRule t =
+    risesBy 1 (length (t .tops)) (entry (t .tops))
+    and allWithin 1 300 (length (t .tops)) (entry (t .tops))
+    and allWithin 1 200 (length (t .rates)) (entry (t .rates))
+
+-- 8. Each stop is two points or more after the stop before it, no stop exceeds P - 1, and no dwell exceeds 3,600.
+unfoldable pub stopsRule : Line → Train → Bool
+stopsRule l t =
+    risesBy 2 (length (t .stops)) (entry (t .stops))
+    and allWithin 0 (l .points - 1) (length (t .stops)) (entry (t .stops))
+    and allWithin 0 3600 (length (t .dwells)) (entry (t .dwells))
+
+-- 9. The last block's end plus n does not exceed P - 1.
+unfoldable pub lastBlockRule : Line → Train → Bool
+lastBlockRule l t = leb (entry (l .blockEnds) (length (l .blockEnds) - 1) + trainCells l t) (l .points - 1)
+
+-- a test of a train passes for every train of the file
+abbrev pub everyTrain : List ℕ → (Train → Bool) → Bool
+everyTrain file test = every (trainCount file) (λ k. test (trainOf file k))
+
+-- The rules of the file in checking order. Each goes over the whole file before the next, so a lower number anywhere in the file wins.
+-- A difference such as P - 2 is cut off at 0 where P is too small; then rule 3 is broken and comes first.
+abbrev pub fileRules : List ℕ → List Rule
+fileRules file =
+    rule 1 (whole file)
+    ∷ rule 2 (nothingAfter file)
+    ∷ rule 3 (lineSizes (lineOf file) (trainCount file) and everyTrain file trainSizes)
+    ∷ rule 4 (limitPointsRule (lineOf file))
+    ∷ rule 5 (limitsRule (lineOf file))
+    ∷ rule 6 (blocksRule (lineOf file))
+    ∷ rule 7 (everyTrain file bandsRule)
+    ∷ rule 8 (everyTrain file (stopsRule (lineOf file)))
+    ∷ rule 9 (everyTrain file (lastBlockRule (lineOf file)))
+    ∷ []
+
+-- 10. The train number asked for is below T.
+unfoldable pub trainThere : List ℕ → ℕ → Bool
+trainThere file k = ltb k (trainCount file)
+
+abbrev pub trainRules : List ℕ → ℕ → List Rule
+trainRules file k = fileRules file ++ (rule 10 (trainThere file k) ∷ [])
+
+-- 11. The lent buffers for speeds and times have P entries or more.
+unfoldable pub buffersLong : Line → ℕ → ℕ → Bool
+buffersLong l speeds times = leb (l .points) speeds and leb (l .points) times
+
+abbrev pub runRules : List ℕ → ℕ → ℕ → ℕ → List Rule
+runRules file k speeds times = trainRules file k ++ (rule 11 (buffersLong (lineOf file) speeds times) ∷ [])
+
+-- ---- the rules of the sheet
+
+-- 12, of a block count: it is 1 to 32.
+abbrev pub countRule : ℕ → Bool
+countRule n = within 1 32 n
+
+-- 12, of a sheet: also it has at most 64 trains, and no free time of a block within the count is above trains times 2^44.
+unfoldable pub sheetRule : Sheet → Bool
+sheetRule s =
+    countRule (s .blocks)
+    and leb (s .trains) 64
+    and every (s .blocks) (λ b. leb (freeTime s b) (s .trains * 2 ^ 44))
+
+-- 13. The sheet does not have 64 trains.
+abbrev pub roomRule : ℕ → Bool
+roomRule trains = not (eqb trains 64)
+
+-- 14. The hold record's block count is the sheet's, n, each beginning is below its end, and no end exceeds 2^44. Only places within
+-- the count are read.
+unfoldable pub holdRule : ℕ → Hold → Bool
+holdRule n h =
+    eqb (h .blocks) n
+    and every n (λ b. ltb (begin h b) (end h b))
+    and every n (λ b. leb (end h b) (2 ^ 44))
+
+abbrev pub addingRules : Sheet → Hold → List Rule
+addingRules s h = rule 12 (sheetRule s) ∷ rule 13 (roomRule (s .trains)) ∷ rule 14 (holdRule (s .blocks) h) ∷ []

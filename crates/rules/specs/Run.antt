@@ -1,0 +1,124 @@
+-- Document 01, "The run": braking loss, cap, traction step, permitted rows and the run. Squared speeds are squares of hundredths of
+-- a km/h.
+use Prim.Native.Nat.{ℕ, zero, suc, _+_, _-_, _*_, _≤_, _<_, min, max}
+use mathlib.Core.Bool.{Bool, true, false, cond}
+use mathlib.Core.List.{List, [], _∷_}
+use mathlib.Core.Path.{_≡_}
+use lib.Dec.{leb, eqb}
+use lib.ListN.{length}
+use Rattle.rules.specs.Count.{entry, row, lowestFrom, ceilDiv}
+use Rattle.rules.specs.Line.{Line, Train, practiceRate}
+
+-- the square of 100 times a speed in km/h
+unfoldable pub squared : ℕ → ℕ
+squared v = 100 * v * (100 * v)
+
+-- the squared speed gained or lost over a step of L metres at a rate in cm/s², exactly
+unfoldable pub change : ℕ → ℕ → ℕ
+change rate L = rate * 2592 * L
+
+-- G, the squared speed lost over one cell at the practice braking rate
+unfoldable pub brakingLoss : Line → Train → ℕ
+brakingLoss l t = change (practiceRate (t .class)) (l .step)
+
+-- ---- the cap
+
+-- n, the train's length in steps, rounded up
+unfoldable pub trainCells : Line → Train → ℕ
+trainCells l t = ceilDiv (t .trainLength) (l .step)
+
+-- The limit of cell c: a limit holds from the cell at its point up to the next limit's point. `v` is what held before.
+unfoldable pub limitFrom : ℕ → List ℕ → List ℕ → ℕ → ℕ
+limitFrom v [] ks c = v
+limitFrom v (p ∷ ps) [] c = v
+limitFrom v (p ∷ ps) (k ∷ ks) c = cond (leb p c) (limitFrom k ps ks c) v
+
+unfoldable pub cellLimit : Line → ℕ → ℕ
+cellLimit l c = limitFrom 0 (l .limitPoints) (l .limits) c
+
+-- the last of a list, or v where it is empty
+unfoldable pub lastOr : ℕ → List ℕ → ℕ
+lastOr v [] = v
+lastOr v (x ∷ xs) = lastOr x xs
+
+-- the last band's top, in km/h
+abbrev pub lastTop : Train → ℕ
+lastTop t = lastOr 0 (t .tops)
+
+-- the lowest of m and the limits of cells i - n to i that exist; cells are 0 to points - 2
+unfoldable pub lowestCovered : (ℕ → ℕ) → ℕ → ℕ → ℕ → ℕ → ℕ
+lowestCovered limit m n points i =
+    let first : ℕ = i - n in
+    lowestFrom limit m first (min (i + 1) (points - 1) - first)
+
+-- the lowest of the limits of cells i - n to i that exist and the last band's top, in km/h
+unfoldable pub capSpeed : Line → Train → ℕ → ℕ
+capSpeed l t i = lowestCovered (cellLimit l) (lastTop t) (trainCells l t) (l .points) i
+
+-- point i is among the points listed
+unfoldable pub listed : ℕ → List ℕ → Bool
+listed i [] = false
+listed i (s ∷ ss) = cond (eqb i s) true (listed i ss)
+
+-- the cap of a speed: 0 at a stop
+unfoldable pub capOf : List ℕ → ℕ → ℕ → ℕ
+capOf stops i v = cond (listed i stops) 0 (squared v)
+
+-- the cap at point i
+unfoldable pub cap : Line → Train → ℕ → ℕ
+cap l t i = capOf (t .stops) i (capSpeed l t i)
+
+-- ---- the traction step
+
+-- one band's part: the lesser of w with the gain and the square of 100 times its top
+unfoldable pub bandStep : ℕ → ℕ → ℕ → ℕ → ℕ
+bandStep L top rate w = min (w + change rate L) (squared top)
+
+-- the greatest of the bands' parts
+unfoldable pub bandsStep : ℕ → List ℕ → List ℕ → ℕ → ℕ
+bandsStep L [] rs w = 0
+bandsStep L (v ∷ vs) [] w = 0
+bandsStep L (v ∷ vs) (r ∷ rs) w = max (bandStep L v r w) (bandsStep L vs rs w)
+
+-- the traction step from squared speed w
+unfoldable pub tractionStep : Line → Train → ℕ → ℕ
+tractionStep l t w = bandsStep (l .step) (t .tops) (t .rates) w
+
+-- ---- permitted rows, and the run
+
+-- a permitted row of squared speeds
+pub record Permitted (l : Line) (t : Train) (speeds : List ℕ) : Type 0 where
+  pub whole : length speeds ≡ l .points
+  pub capped : (i : ℕ) → i < l .points → entry speeds i ≤ cap l t i
+  pub drawn : (i : ℕ) → suc i < l .points → entry speeds (suc i) ≤ tractionStep l t (entry speeds i)
+  pub braked : (i : ℕ) → suc i < l .points → entry speeds i ≤ entry speeds (suc i) + brakingLoss l t
+
+-- the run: the permitted row with the greatest entry at every point
+pub record IsRun (l : Line) (t : Train) (speeds : List ℕ) : Type 0 where
+  pub permitted : Permitted l t speeds
+  pub greatest : (other : List ℕ) → Permitted l t other → (i : ℕ) → i < l .points → entry other i ≤ entry speeds i
+
+-- The run, computed by two sweeps. Forward: each entry is at most its cap and the step from the entry before.
+unfoldable pub forwardSweep : (ℕ → ℕ) → (ℕ → ℕ) → ℕ → ℕ
+forwardSweep caps step zero = caps 0
+forwardSweep caps step (suc i) = min (caps (suc i)) (step (forwardSweep caps step i))
+
+-- Backward, at point i with k points behind it: each entry is at most its top and the next entry plus the loss.
+unfoldable pub backwardBefore : (ℕ → ℕ) → ℕ → ℕ → ℕ → ℕ
+backwardBefore tops loss zero i = tops i
+backwardBefore tops loss (suc k) i = min (tops i) (backwardBefore tops loss k (suc i) + loss)
+
+-- the backward sweep over n points
+unfoldable pub backwardSweep : (ℕ → ℕ) → ℕ → ℕ → ℕ → ℕ
+backwardSweep tops loss n i = backwardBefore tops loss (n - suc i) i
+
+-- the greatest row that keeps to caps and traction steps, braking left out
+unfoldable pub forward : Line → Train → ℕ → ℕ
+forward l t i = forwardSweep (cap l t) (tractionStep l t) i
+
+unfoldable pub runAt : Line → Train → ℕ → ℕ
+runAt l t i = backwardSweep (forward l t) (brakingLoss l t) (l .points) i
+
+-- the run's squared speeds
+unfoldable pub runRow : Line → Train → List ℕ
+runRow l t = row (runAt l t) (l .points)

@@ -1,0 +1,45 @@
+-- Document 01, "The sheet of starts": hold records and sheets with any contents, the least start, the block named and the sheet after.
+use Prim.Native.Nat.{ℕ, zero, suc, _+_, _-_}
+use mathlib.Core.Bool.{cond}
+use mathlib.Core.List.{List}
+use lib.Dec.{eqb}
+use lib.ListN.{set, replicate}
+use Rattle.rules.specs.Count.{entry, greatestBelow, firstBelow}
+use Rattle.rules.specs.Hold.{Hold}
+
+-- the block count, the number of trains, and the free time of each block
+pub record Sheet : Type 0 where
+  pub blocks : ℕ
+  pub trains : ℕ
+  pub free : List ℕ
+
+-- the beginning and the end of the hold of block b, and its free time; b counts from 0
+abbrev pub begin : Hold → ℕ → ℕ
+begin h b = entry (h .begins) b
+
+abbrev pub end : Hold → ℕ → ℕ
+end h b = entry (h .ends) b
+
+abbrev pub freeTime : Sheet → ℕ → ℕ
+freeTime s b = entry (s .free) b
+
+-- a fresh sheet of n blocks; the places beyond the block count are 0 too
+unfoldable pub fresh : ℕ → Sheet
+fresh n = record { blocks = n; trains = 0; free = replicate 32 0 }
+
+-- The least start, 0 or more, such that start plus beginning is at least the free time in every block: the greatest wait of a block.
+unfoldable pub leastStart : Sheet → Hold → ℕ
+leastStart s h = greatestBelow (s .blocks) (λ b. freeTime s b - begin h b)
+
+-- The block named, counted from 1: the first where start plus beginning equals the free time before the addition, or 0 if the start is 0.
+unfoldable pub blockNamed : Sheet → Hold → ℕ → ℕ
+blockNamed s h start = cond (eqb start 0) 0 (firstBelow (s .blocks) (λ b. eqb (start + begin h b) (freeTime s b)))
+
+-- the free times of the first n blocks become start plus end
+unfoldable pub released : ℕ → Hold → ℕ → List ℕ → List ℕ
+released zero h start free = free
+released (suc n) h start free = set (released n h start free) n (start + end h n)
+
+-- the sheet after an addition at this start
+unfoldable pub sheetAfter : Sheet → Hold → ℕ → Sheet
+sheetAfter s h start = record { blocks = s .blocks; trains = s .trains + 1; free = released (s .blocks) h start (s .free) }
