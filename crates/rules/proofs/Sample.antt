@@ -1,47 +1,125 @@
--- The marked cases of document 01 over the definitions, as one table, each by computation.
+-- The marked cases of document 01 over the definitions, as one table, and a longer line beside it. Each entry is proved by computation.
 -- Assumes nothing.
 use Prim.Native.Nat.{ℕ, _/_, _%_}
 use mathlib.Core.List.{List, [], _∷_, _++_}
 use mathlib.Core.Path.{_≡_, refl}
-use lib.ListN.{take, set}
-use Rattle.rules.specs.Count.{_and_, entry, row, rowFrom, every, within, greatestBelow, lowestFrom, firstBelow, lastBelow, ceilDiv}
+use lib.ListN.{getD, take, replicate}
+use Rattle.rules.specs.Count.{_and_, rowFrom, every, within, greatestBelow, lowestFrom, firstBelow, lastBelow, ceilDiv}
 use Rattle.rules.specs.File.{word, words, recordAt}
-use Rattle.rules.specs.Line.{Line, Train, lineOf, trainAt, trainOf}
+use Rattle.rules.specs.Line.{lineOf, trainAt, trainOf}
 use Rattle.rules.specs.Run.{squared, change, brakingLoss, trainCells, limitFrom, cellLimit, lastOr, lowestCovered, capSpeed, listed, capOf, cap, bandStep, bandsStep, tractionStep, forwardSweep, backwardBefore, backwardSweep, forward, runAt, runRow}
 use Rattle.rules.specs.Time.{nextDigit, rootDigits, root, cellTime, dwellFrom, dwell, arrival, departure, arrivals, runTimes}
 use Rattle.rules.specs.Hold.{Hold, approachPoint, holdBegin, holdEnd, blockPlaces, holdWith, holdOf}
 use Rattle.rules.specs.Sheet.{fresh, leastStart, blockNamed, released, sheetAfter}
-use Rattle.rules.specs.Refusal.{firstBroken, refusal, whole, nothingAfter, lineSizes, trainSizes, limitPointsRule, limitsRule, blocksRule, bandsRule, stopsRule, lastBlockRule, trainThere, buffersLong, sheetRule, holdRule}
+use Rattle.rules.specs.Refusal.{firstBroken, refusal, whole, nothingAfter, lineSizes, trainSizes, limitPointsRule, limitsRule, blocksRule, bandsRule, stopsRule, lastBlockRule, trainThere, sheetRule, holdRule}
 use Rattle.rules.specs.Calls.{fileRefusal, trainRefusal, trainRecord, accepted, added, opened, headwayOf, headway}
 use Rattle.rules.specs.Demand.{answers}
 use Rattle.rules.specs.Text.{digitsOf, decimal, field, header, trainLine, refusalText, joined, holdsFrom, fileAnswers, runningTime, lineOfTrain, sheetText, programText}
 
 -- numbers as a file has them, low byte first
-pub bytes : List ℕ → List ℕ
+unfoldable pub bytes : List ℕ → List ℕ
 bytes [] = []
 bytes (n ∷ ns) = n % 256 ∷ n / 256 ∷ bytes ns
 
+-- the sample line, and one of its trains by its length and its second stop
 sampleLine : List ℕ
 sampleLine = 7 ∷ 100 ∷ 1 ∷ 2 ∷ 10 ∷ 20 ∷ 0 ∷ 72 ∷ 0 ∷ 2 ∷ 2 ∷ 5 ∷ 2 ∷ []
 
--- a train of the sample line, by its length and its second stop
 sampleTrain : ℕ → ℕ → List ℕ
 sampleTrain len stop = 0 ∷ len ∷ 1 ∷ 2 ∷ 72 ∷ 50 ∷ 0 ∷ stop ∷ 0 ∷ 0 ∷ []
 
-pub sample : ℕ → ℕ → List ℕ
-sample len stop = bytes (sampleLine ++ sampleTrain len stop ++ sampleTrain len stop)
+pub sampleWith : ℕ → ℕ → List ℕ
+sampleWith len stop = bytes (sampleLine ++ (sampleTrain len stop ++ sampleTrain len stop))
 
-pub mid : List ℕ
-mid = bytes (60 ∷ 50 ∷ 4 ∷ 4 ∷ 15 ∷ 25 ∷ 0 ∷ 12 ∷ 20 ∷ 41 ∷ 90 ∷ 60 ∷ 120 ∷ 80 ∷ 0 ∷ 10 ∷ 25 ∷ 37 ∷ 10 ∷ 22 ∷ 37 ∷ 52 ∷ 3 ∷ 1 ∷ 180 ∷ 3 ∷ 4 ∷ 40 ∷ 80 ∷ 140 ∷ 110 ∷ 80 ∷ 45 ∷ 0 ∷ 17 ∷ 33 ∷ 59 ∷ 30 ∷ 45 ∷ 20 ∷ 60 ∷ 2 ∷ 330 ∷ 2 ∷ 1 ∷ 30 ∷ 100 ∷ 40 ∷ 20 ∷ 44 ∷ 7 ∷ 0 ∷ 151 ∷ 3 ∷ 1 ∷ 60 ∷ 130 ∷ 160 ∷ 70 ∷ 50 ∷ 30 ∷ 9 ∷ 90 ∷ [])
+pub sample : List ℕ
+sample = sampleWith 100 6
 
-t1 : runRow (lineOf (sample 100 6)) (trainOf (sample 100 6) 0) ≡ 0 ∷ 12960000 ∷ 25920000 ∷ 38880000 ∷ 25920000 ∷ 12960000 ∷ 0 ∷ []
-unfolding bytes sampleLine sampleTrain sample rowFrom lowestFrom ceilDiv word words recordAt lineOf trainAt squared change brakingLoss trainCells limitFrom cellLimit lastOr lowestCovered capSpeed listed capOf cap bandStep bandsStep tractionStep forwardSweep backwardBefore backwardSweep forward runAt runRow
-t1 = refl
+-- the hold record of two blocks with these beginnings and ends
+abbrev twoBlocks : ℕ → ℕ → ℕ → ℕ → Hold
+twoBlocks b₁ b₂ e₁ e₂ = record { blocks = 2; begins = b₁ ∷ b₂ ∷ replicate 30 0; ends = e₁ ∷ e₂ ∷ replicate 30 0 }
 
-t2 : programText (sample 100 6) ≡ header ++ (49 ∷ 32 ∷ 48 ∷ 32 ∷ 54 ∷ 57 ∷ 50 ∷ 56 ∷ 50 ∷ 57 ∷ 55 ∷ 54 ∷ 32 ∷ 48 ∷ 10 ∷ 50 ∷ 32 ∷ 53 ∷ 55 ∷ 50 ∷ 56 ∷ 50 ∷ 57 ∷ 55 ∷ 54 ∷ 32 ∷ 54 ∷ 57 ∷ 50 ∷ 56 ∷ 50 ∷ 57 ∷ 55 ∷ 54 ∷ 32 ∷ 50 ∷ 10 ∷ [])
-unfolding bytes sampleLine sampleTrain sample rowFrom lowestFrom ceilDiv word words recordAt lineOf trainAt squared change brakingLoss trainCells limitFrom cellLimit lastOr lowestCovered capSpeed listed capOf cap bandStep bandsStep tractionStep forwardSweep backwardBefore backwardSweep forward runAt runRow _and_ every within greatestBelow firstBelow lastBelow nextDigit rootDigits root cellTime dwellFrom dwell arrival departure arrivals approachPoint holdBegin holdEnd blockPlaces holdWith fresh leastStart blockNamed released sheetAfter firstBroken refusal whole nothingAfter lineSizes trainSizes limitPointsRule limitsRule blocksRule bandsRule stopsRule lastBlockRule trainThere buffersLong sheetRule holdRule fileRefusal trainRefusal trainRecord added opened headway answers digitsOf decimal field header trainLine refusalText joined holdsFrom fileAnswers runningTime lineOfTrain sheetText programText
-t2 = refl
+pub record Marked : Type 0 where
+  pub m1 : runRow (lineOf sample) (trainOf sample 0) ≡ 0 ∷ 12960000 ∷ 25920000 ∷ 38880000 ∷ 25920000 ∷ 12960000 ∷ 0 ∷ []
+  pub m2 : runTimes (lineOf sample) (trainOf sample 0) ≡ 0 ∷ 20000000 ∷ 28284433 ∷ 34641488 ∷ 40998543 ∷ 49282976 ∷ 69282976 ∷ []
+  pub m3 : holdOf (lineOf sample) (trainOf sample 1) ≡ twoBlocks 0 20000000 42641488 77282976
+  pub m4 : fileAnswers sample ≡ accepted 0 0 ∷ accepted 57282976 2 ∷ []
+  pub m4-headway : headway (holdOf (lineOf sample) (trainOf sample 0)) (holdOf (lineOf sample) (trainOf sample 1)) ≡ headwayOf 57282976
+  -- "1 0 69282976 0" and "2 57282976 69282976 2" behind the header
+  pub m4-text :
+      programText sample ≡
+      header ++ (49 ∷ 32 ∷ 48 ∷ 32 ∷ 54 ∷ 57 ∷ 50 ∷ 56 ∷ 50 ∷ 57 ∷ 55 ∷ 54 ∷ 32 ∷ 48 ∷ 10 ∷ 50 ∷ 32 ∷ 53 ∷ 55 ∷ 50 ∷ 56 ∷ 50 ∷ 57 ∷ 55 ∷ 54 ∷ 32 ∷ 54 ∷ 57 ∷ 50 ∷ 56 ∷ 50 ∷ 57 ∷ 55 ∷ 54 ∷ 32 ∷ 50 ∷ 10 ∷ [])
+  pub m5-zero : root 0 ≡ 0
+  pub m5 : root 25920000 ≡ 5091
+  pub m6-below : root 12959999 ≡ 3599
+  pub m6 : root 12960000 ≡ 3600
+  pub m7 : cellTime 100 5091 6235 ≡ 6357055
+  pub m8 : cellTime 1 0 360 ≡ 2000000
+  pub m9 : bandsStep 10 (30 ∷ 60 ∷ []) (100 ∷ 50 ∷ []) 7000000 ≡ 9000000
+  pub m9-above : bandsStep 10 (30 ∷ 60 ∷ []) (100 ∷ 50 ∷ []) 8000000 ≡ 9296000
+  pub m10-empty : fileRefusal [] ≡ 1
+  pub m10-less : fileRefusal (take 65 sample) ≡ 1
+  pub m10-more : fileRefusal (sample ++ (0 ∷ [])) ≡ 2
+  pub m11 : fileRefusal (sampleWith 101 6) ≡ 9
+  pub m12 : fileRefusal (sampleWith 100 1) ≡ 8
 
-t3 : runRow (lineOf mid) (trainOf mid 1) ≡ 81000000 ∷ 80193600 ∷ 76176000 ∷ 72158400 ∷ 68140800 ∷ 64123200 ∷ 60105600 ∷ 56088000 ∷ 52070400 ∷ 48052800 ∷ 44035200 ∷ 40017600 ∷ 36000000 ∷ 36000000 ∷ 36000000 ∷ 36000000 ∷ 36000000 ∷ 36000000 ∷ 36000000 ∷ 36000000 ∷ 36000000 ∷ 36000000 ∷ 36000000 ∷ 36000000 ∷ 36000000 ∷ 36000000 ∷ 36000000 ∷ 38592000 ∷ 41184000 ∷ 43776000 ∷ 46368000 ∷ 48960000 ∷ 48211200 ∷ 44193600 ∷ 40176000 ∷ 36158400 ∷ 32140800 ∷ 28123200 ∷ 24105600 ∷ 20088000 ∷ 16070400 ∷ 12052800 ∷ 8035200 ∷ 4017600 ∷ 0 ∷ 5184000 ∷ 9000000 ∷ 11592000 ∷ 14184000 ∷ 16776000 ∷ 19368000 ∷ 21960000 ∷ 24552000 ∷ 27144000 ∷ 29736000 ∷ 32328000 ∷ 34920000 ∷ 37512000 ∷ 40104000 ∷ 42696000 ∷ []
-unfolding bytes mid rowFrom lowestFrom ceilDiv word words recordAt lineOf trainAt squared change brakingLoss trainCells limitFrom cellLimit lastOr lowestCovered capSpeed listed capOf cap bandStep bandsStep tractionStep forwardSweep backwardBefore backwardSweep forward runAt runRow
-t3 = refl
+-- ---- sixty points of 50 m, four limits, four blocks, and a train of each class with one to four stops and two or three bands
+
+middleLine : List ℕ
+middleLine = 60 ∷ 50 ∷ 4 ∷ 4 ∷ 15 ∷ 25 ∷ 0 ∷ 12 ∷ 20 ∷ 41 ∷ 90 ∷ 60 ∷ 120 ∷ 80 ∷ 0 ∷ 10 ∷ 25 ∷ 37 ∷ 10 ∷ 22 ∷ 37 ∷ 52 ∷ 3 ∷ []
+
+pub middleTrain : ℕ → List ℕ
+middleTrain k = getD ((1 ∷ 180 ∷ 3 ∷ 4 ∷ 40 ∷ 80 ∷ 140 ∷ 110 ∷ 80 ∷ 45 ∷ 0 ∷ 17 ∷ 33 ∷ 59 ∷ 30 ∷ 45 ∷ 20 ∷ 60 ∷ []) ∷ (2 ∷ 330 ∷ 2 ∷ 1 ∷ 30 ∷ 100 ∷ 40 ∷ 20 ∷ 44 ∷ 7 ∷ []) ∷ (0 ∷ 151 ∷ 3 ∷ 1 ∷ 60 ∷ 130 ∷ 160 ∷ 70 ∷ 50 ∷ 30 ∷ 9 ∷ 90 ∷ []) ∷ []) k []
+
+pub middle : List ℕ
+middle = bytes (middleLine ++ (middleTrain 0 ++ (middleTrain 1 ++ middleTrain 2)))
+
+abbrev fourBlocks : List ℕ → List ℕ → Hold
+fourBlocks begins ends = record { blocks = 4; begins = begins ++ replicate 28 0; ends = ends ++ replicate 28 0 }
+
+pub record Middle : Type 0 where
+  pub taken : fileRefusal middle ≡ 0
+  pub train : trainRecord middle 1 ≡ bytes (middleTrain 1)
+  pub missing : trainRefusal middle 3 ≡ 10
+  pub speeds :
+      runRow (lineOf middle) (trainOf middle 0) ≡
+      0 ∷ 14256000 ∷ 24624000 ∷ 34992000 ∷ 45360000 ∷ 55728000 ∷ 64000000 ∷ 69832000 ∷ 67104000 ∷ 59328000 ∷ 51552000 ∷ 43776000 ∷ 36000000 ∷ 31104000 ∷ 23328000 ∷ 15552000 ∷ 7776000 ∷ 0 ∷ 14256000 ∷ 24624000 ∷ 34992000 ∷ 36000000 ∷ 36000000 ∷ 36000000 ∷ 46368000 ∷ 56736000 ∷ 54432000 ∷ 46656000 ∷ 38880000 ∷ 31104000 ∷ 23328000 ∷ 15552000 ∷ 7776000 ∷ 0 ∷ 14256000 ∷ 24624000 ∷ 34992000 ∷ 45360000 ∷ 55728000 ∷ 64000000 ∷ 69832000 ∷ 64000000 ∷ 64000000 ∷ 64000000 ∷ 64000000 ∷ 64000000 ∷ 64000000 ∷ 64000000 ∷ 64000000 ∷ 64000000 ∷ 64000000 ∷ 62208000 ∷ 54432000 ∷ 46656000 ∷ 38880000 ∷ 31104000 ∷ 23328000 ∷ 15552000 ∷ 7776000 ∷ 0 ∷ []
+  pub enters-at-speed :
+      runRow (lineOf middle) (trainOf middle 1) ≡
+      81000000 ∷ 80193600 ∷ 76176000 ∷ 72158400 ∷ 68140800 ∷ 64123200 ∷ 60105600 ∷ 56088000 ∷ 52070400 ∷ 48052800 ∷ 44035200 ∷ 40017600 ∷ 36000000 ∷ 36000000 ∷ 36000000 ∷ 36000000 ∷ 36000000 ∷ 36000000 ∷ 36000000 ∷ 36000000 ∷ 36000000 ∷ 36000000 ∷ 36000000 ∷ 36000000 ∷ 36000000 ∷ 36000000 ∷ 36000000 ∷ 38592000 ∷ 41184000 ∷ 43776000 ∷ 46368000 ∷ 48960000 ∷ 48211200 ∷ 44193600 ∷ 40176000 ∷ 36158400 ∷ 32140800 ∷ 28123200 ∷ 24105600 ∷ 20088000 ∷ 16070400 ∷ 12052800 ∷ 8035200 ∷ 4017600 ∷ 0 ∷ 5184000 ∷ 9000000 ∷ 11592000 ∷ 14184000 ∷ 16776000 ∷ 19368000 ∷ 21960000 ∷ 24552000 ∷ 27144000 ∷ 29736000 ∷ 32328000 ∷ 34920000 ∷ 37512000 ∷ 40104000 ∷ 42696000 ∷ []
+  pub times :
+      runTimes (lineOf middle) (trainOf middle 0) ≡
+      0 ∷ 9536424 ∷ 13656832 ∷ 16966569 ∷ 19812644 ∷ 22348034 ∷ 24675872 ∷ 26876900 ∷ 29052521 ∷ 31317670 ∷ 33736863 ∷ 36346505 ∷ 39200025 ∷ 42309639 ∷ 45769182 ∷ 49873150 ∷ 55221539 ∷ 68134022 ∷ 122670446 ∷ 126790854 ∷ 130100591 ∷ 133121993 ∷ 136121993 ∷ 139121993 ∷ 141932517 ∷ 144442803 ∷ 146857452 ∷ 149391415 ∷ 152146869 ∷ 155194618 ∷ 158654161 ∷ 162758129 ∷ 168106518 ∷ 181019001 ∷ 210555425 ∷ 214675833 ∷ 217985570 ∷ 220831645 ∷ 223367035 ∷ 225694873 ∷ 227895901 ∷ 230096929 ∷ 232346929 ∷ 234596929 ∷ 236846929 ∷ 239096929 ∷ 241346929 ∷ 243596929 ∷ 245846929 ∷ 248096929 ∷ 250346929 ∷ 252612933 ∷ 254971424 ∷ 257505387 ∷ 260260841 ∷ 263308590 ∷ 266768133 ∷ 270872101 ∷ 276220490 ∷ 289132973 ∷ []
+  pub hold-1 : holdOf (lineOf middle) (trainOf middle 0) ≡ fourBlocks (0 ∷ 19812644 ∷ 130100591 ∷ 210555425 ∷ []) (54769182 ∷ 155857452 ∷ 239096929 ∷ 275768133 ∷ [])
+  pub hold-2 : holdOf (lineOf middle) (trainOf middle 1) ≡ fourBlocks (0 ∷ 0 ∷ 40486502 ∷ 73434423 ∷ []) (52486502 ∷ 88047224 ∷ 158146085 ∷ 236879001 ∷ [])
+  pub hold-3 : holdOf (lineOf middle) (trainOf middle 2) ≡ fourBlocks (0 ∷ 132431166 ∷ 174348358 ∷ 196732026 ∷ []) (168348358 ∷ 203381082 ∷ 233221240 ∷ 266971240 ∷ [])
+  -- header and "1 0 289132973 0", "2 202333710 227879001 4", "3 254820212 264721240 1"
+  pub text :
+      programText middle ≡
+      header ++ (49 ∷ 32 ∷ 48 ∷ 32 ∷ 50 ∷ 56 ∷ 57 ∷ 49 ∷ 51 ∷ 50 ∷ 57 ∷ 55 ∷ 51 ∷ 32 ∷ 48 ∷ 10 ∷ 50 ∷ 32 ∷ 50 ∷ 48 ∷ 50 ∷ 51 ∷ 51 ∷ 51 ∷ 55 ∷ 49 ∷ 48 ∷ 32 ∷ 50 ∷ 50 ∷ 55 ∷ 56 ∷ 55 ∷ 57 ∷ 48 ∷ 48 ∷ 49 ∷ 32 ∷ 52 ∷ 10 ∷ 51 ∷ 32 ∷ 50 ∷ 53 ∷ 52 ∷ 56 ∷ 50 ∷ 48 ∷ 50 ∷ 49 ∷ 50 ∷ 32 ∷ 50 ∷ 54 ∷ 52 ∷ 55 ∷ 50 ∷ 49 ∷ 50 ∷ 52 ∷ 48 ∷ 32 ∷ 49 ∷ 10 ∷ [])
+
+pub tables : Marked × Middle
+unfolding bytes sampleLine sampleTrain sampleWith sample middleLine middleTrain middle _and_ rowFrom every within greatestBelow lowestFrom firstBelow lastBelow ceilDiv word words recordAt lineOf trainAt squared change brakingLoss trainCells limitFrom cellLimit lastOr lowestCovered capSpeed listed capOf cap bandStep bandsStep tractionStep forwardSweep backwardBefore backwardSweep forward runAt runRow nextDigit rootDigits root cellTime dwellFrom dwell arrival departure arrivals approachPoint holdBegin holdEnd blockPlaces holdWith fresh leastStart blockNamed released sheetAfter firstBroken refusal whole nothingAfter lineSizes trainSizes limitPointsRule limitsRule blocksRule bandsRule stopsRule lastBlockRule trainThere sheetRule holdRule fileRefusal trainRefusal trainRecord added opened headway answers digitsOf decimal field header trainLine refusalText joined holdsFrom fileAnswers runningTime lineOfTrain sheetText programText
+tables = (
+  record {
+    m1 = refl;
+    m2 = refl;
+    m3 = refl;
+    m4 = refl;
+    m4-headway = refl;
+    m4-text = refl;
+    m5-zero = refl;
+    m5 = refl;
+    m6-below = refl;
+    m6 = refl;
+    m7 = refl;
+    m8 = refl;
+    m9 = refl;
+    m9-above = refl;
+    m10-empty = refl;
+    m10-less = refl;
+    m10-more = refl;
+    m11 = refl;
+    m12 = refl;
+  },
+  record { taken = refl; train = refl; missing = refl; speeds = refl; enters-at-speed = refl; times = refl; hold-1 = refl; hold-2 = refl; hold-3 = refl; text = refl },
+)

@@ -1,0 +1,134 @@
+-- The places of the file: records follow one another, the arrays have the announced lengths, and the literal scan reads to the
+-- announced end exactly where rule 1 is kept. Assumes nothing.
+use Prim.Native.Nat.{ℕ, zero, suc, _+_, _*_, _≤_, _<_}
+use mathlib.Core.Bool.{Bool, true, false, cond}
+use mathlib.Core.List.{List}
+use mathlib.Core.Logic.{_↔_, ⊎-elim}
+use mathlib.Core.Path.{_≡_, refl, sym, ap, _∙_}
+use native.Mathlib.Nat.{le-antisymm, le-of-eq, le-of-suc-le-suc, eq-or-lt-of-le, zero-add, add-zero}
+use native.Mathlib.Omega.{arith}
+use lib.Dec.{leb}
+use lib.ListN.{length}
+use borrow.Author.Tests.{le-leb, lt-leb, leb-true, leb-false}
+use Rattle.rules.specs.Count.{entry}
+use Rattle.rules.specs.File.{word, words, sizesEnd, limitCount, blockCount, trainCount, trainsAt, bandCount, stopCount, recordEnd, recordAt, announcedEnd}
+use Rattle.rules.specs.Reading.{Reading, endsEarly, readTo, have, readTrains, readFile}
+use Rattle.rules.specs.Line.{Line, Train, lineOf, trainAt}
+use Rattle.rules.specs.Refusal.{whole, nothingAfter}
+use Rattle.rules.specs.Admitted.{Parallel}
+use Rattle.rules.proofs.Count.{length-row, entry-row}
+
+-- ---- the arrays
+
+pub length-words : (file : List ℕ) (place n : ℕ) → length (words file place n) ≡ n
+unfolding words
+length-words file place n = length-row (λ i. word file (place + 2 * i)) n
+
+pub entry-words : (file : List ℕ) (place n i : ℕ) → i < n → entry (words file place n) i ≡ word file (place + 2 * i)
+unfolding words
+entry-words file place n i h = entry-row (λ i. word file (place + 2 * i)) n i h
+
+pub parallel : (file : List ℕ) (at : ℕ) → Parallel (lineOf file) (trainAt file at)
+unfolding lineOf trainAt
+parallel file at =
+    record {
+      limits = length-words file _ (limitCount file) ∙ sym (length-words file _ (limitCount file));
+      blocks = length-words file _ (blockCount file) ∙ sym (length-words file _ (blockCount file));
+      bands = length-words file _ (bandCount file at) ∙ sym (length-words file _ (bandCount file at));
+      stops = length-words file _ (stopCount file at) ∙ sym (length-words file _ (stopCount file at));
+    }
+
+-- the file's bytes are bytes
+abbrev pub AreBytes : List ℕ → Type 0
+AreBytes file = (i : ℕ) → entry file i < 256
+
+pub word-most : (file : List ℕ) → AreBytes file → (place : ℕ) → word file place < 65536
+unfolding word
+word-most file b place = omega (arith, b place, b (place + 1))
+
+-- ---- the records, one after the other
+
+pub records-grow : (file : List ℕ) (i j : ℕ) → i ≤ j → recordAt file i ≤ recordAt file j
+unfolding recordAt
+records-grow file i zero l = let e : i ≡ 0 = omega arith in le-of-eq (ap (recordAt file) e)
+records-grow file i (suc j) l =
+    ⊎-elim (λ e. le-of-eq (ap (recordAt file) e)) (λ lt. omega (arith, records-grow file i j (le-of-suc-le-suc lt)))
+    (eq-or-lt-of-le l)
+
+pub trains-within : (file : List ℕ) → trainsAt file ≤ announcedEnd file
+unfolding recordAt
+trains-within file = records-grow file 0 (trainCount file) (omega arith)
+
+-- a train's record ends within the announced end
+pub record-within : (file : List ℕ) (k : ℕ) → k < trainCount file → recordEnd file (recordAt file k) ≤ announcedEnd file
+unfolding recordAt
+record-within file k h = records-grow file (suc k) (trainCount file) h
+
+-- ---- the literal scan
+
+early : (file : List ℕ) (a : ℕ) → have file a endsEarly ≡ endsEarly
+early file a = go (leb a (length file))
+  where
+    go : (b : Bool) → cond b endsEarly endsEarly ≡ endsEarly
+    go true = refl
+    go false = refl
+
+there : (file : List ℕ) (a : ℕ) (r : Reading) → a ≤ length file → have file a r ≡ r
+there file a r h = rw (le-leb a (length file) h)
+
+missing : (file : List ℕ) (a : ℕ) (r : Reading) → length file < a → have file a r ≡ endsEarly
+missing file a r h = rw (lt-leb a (length file) h)
+
+-- two tests, of which the second reaches further, are as good as a last that reaches furthest
+chain :
+    (file : List ℕ) (a b e : ℕ) (r : Reading) → a ≤ b → b ≤ e → (b ≤ length file → r ≡ have file e (readTo e)) →
+    have file a (have file b r) ≡ have file e (readTo e)
+chain file a b e r l m next = go (leb b (length file)) refl
+  where
+    go : (t : Bool) → leb b (length file) ≡ t → have file a (have file b r) ≡ have file e (readTo e)
+    go true q =
+        let h = leb-true b (length file) q in
+        ap (have file a) (there file b r h) ∙ there file a r (omega arith) ∙ next h
+    go false q =
+        let h = leb-false b (length file) q in
+        ap (have file a) (missing file b r h) ∙ early file a ∙ sym (missing file e (readTo e) (omega arith))
+
+trains : (file : List ℕ) (n k : ℕ) → recordAt file k ≤ length file → readTrains file n (recordAt file k) ≡ have file (recordAt file (n + k)) (readTo (recordAt file (n + k)))
+unfolding readTrains recordAt
+trains file zero k h = rw zero-add (sym (there file (recordAt file k) (readTo (recordAt file k)) h))
+trains file (suc n) k h =
+    rw (sym (shift n k))
+    (chain file _ (recordAt file (suc k)) (recordAt file (n + suc k)) _ (omega arith) (records-grow file (suc k) (n + suc k) (omega arith)) (trains file n (suc k)))
+  where
+    shift : (n k : ℕ) → n + suc k ≡ suc n + k
+    shift n k = omega arith
+
+-- the file is read to the announced end where rule 1 is kept, and ends early where it is broken
+pub reading : (file : List ℕ) → readFile file ≡ cond (whole file) (readTo (announcedEnd file)) endsEarly
+unfolding readFile whole recordAt
+reading file =
+    chain file sizesEnd (trainsAt file) (announcedEnd file) _ (omega arith) (trains-within file)
+    (λ h. rw add-zero at (trains file (trainCount file) 0 h))
+
+-- rule 1 is kept exactly where the scan comes to an end, and then rule 2 exactly where that is the end of the file
+pub rule-1 : (file : List ℕ) → (whole file ≡ true) ↔ ((n : ℕ) × (readFile file ≡ readTo n))
+rule-1 file = (λ e. (announcedEnd file, rw (reading file, e)), λ r. go (whole file) (sym (reading file) ∙ r .1))
+  where
+    go : (b : Bool) {n : ℕ} → cond b (readTo (announcedEnd file)) endsEarly ≡ readTo n → b ≡ true
+    go true e = refl
+    go false e = cc
+
+pub rule-2 : (file : List ℕ) → whole file ≡ true → (nothingAfter file ≡ true) ↔ (readFile file ≡ readTo (length file))
+unfolding whole nothingAfter
+rule-2 file w = (
+  λ e. read ∙ ap readTo (le-antisymm (leb-true _ _ w) (leb-true _ _ e)),
+  λ r.
+      let same : announcedEnd file ≡ length file = to (sym read ∙ r) in
+      le-leb _ _ (le-of-eq (sym same)),
+)
+  where
+    read : readFile file ≡ readTo (announcedEnd file)
+    read = rw (reading file, w)
+
+    to : {m n : ℕ} → readTo m ≡ readTo n → m ≡ n
+    to e = cc
