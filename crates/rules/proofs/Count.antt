@@ -5,7 +5,7 @@ use mathlib.Core.List.{List, [], _∷_, _++_}
 use mathlib.Core.Logic.{_⊎_, inl, inr, ⊎-elim}
 use mathlib.Core.Path.{_≡_, refl, sym, subst, ap, ap₂, _∙_}
 use native.Mathlib.Decide.{decLe}
-use native.Mathlib.Nat.{le-refl, le-trans, le-of-suc-le-suc, eq-or-lt-of-le, le-max-left, le-max-right, max-le, add-zero, zero-add, lt-div-mul-add, div-lt-iff-lt-mul, suc-mul, mul-le-mul-left}
+use native.Mathlib.Nat.{le-refl, le-trans, le-suc-iff, le-of-suc-le-suc, eq-or-lt-of-le, le-max-left, le-max-right, max-le, add-zero, zero-add, lt-div-mul-add, div-lt-iff-lt-mul, suc-mul, mul-le-mul-left}
 use native.Mathlib.Omega.{arith}
 use lib.Dec.{leb, eqb}
 use lib.ListN.{length, getD}
@@ -78,6 +78,11 @@ rises-means gap n f e i l = rw (next f i) at (below-means gap (n - 1) f (λ i. f
 
 pub rises-holds : (gap n : ℕ) (f : ℕ → ℕ) → ((i : ℕ) → suc i < n → f i + gap ≤ f (suc i)) → risesBy gap n f ≡ true
 rises-holds gap n f h = below-holds gap (n - 1) f (λ i. f (i + 1)) (λ i l. rw (next f i) (h i (omega arith)))
+
+-- where no value is above the next, none is above a later one
+pub rises-far : (f : ℕ → ℕ) (n : ℕ) → ((k : ℕ) → suc k < n → f k ≤ f (suc k)) → (j k : ℕ) → j ≤ k → k < n → f j ≤ f k
+rises-far f n r j zero h g = let e : j ≡ 0 = omega arith in rw e (omega arith)
+rises-far f n r j (suc k) h g = ⊎-elim (λ p. le-trans (rises-far f n r j k p (omega arith)) (r k g)) (λ e. rw e (omega arith)) (le-suc-iff .0 h)
 
 -- ---- the greatest, the lowest, the first, the last
 

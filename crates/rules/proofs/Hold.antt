@@ -20,21 +20,19 @@ use Rattle.rules.specs.Sheet.{begin, end}
 use Rattle.rules.specs.Calls.{fileRefusal}
 use Rattle.rules.specs.Admitted.{Admitted, Rule14}
 use Rattle.rules.specs.Meaning.{Brakes, IsApproachPoint, IsHold}
-use Rattle.rules.proofs.Count.{length-row, entry-row, last-passes, last-none, last-at-most}
+use Rattle.rules.proofs.Count.{rises-far, length-row, entry-row, last-passes, last-none, last-at-most}
 use Rattle.rules.proofs.File.{AreBytes, word-most}
 use Rattle.rules.proofs.Refusal.{admitted}
+use Rattle.rules.proofs.Time.{departs-before, arrival-most}
 
 -- ---- the approach point
 
 module _ (speeds : List ℕ) (loss b : ℕ) where
-  pub approach-most : approachPoint speeds loss b ≤ b
-  unfolding approachPoint
-  approach-most = last-at-most b (λ i. leb (entry speeds i) (loss * (b - i)))
-
   pub approach-is : IsApproachPoint speeds loss b (approachPoint speeds loss b)
   unfolding approachPoint
   approach-is =
       record {
+        at-most = last-at-most b (λ i. leb (entry speeds i) (loss * (b - i)));
         greatest = λ i h.
             let (m, n, e) = last-passes (suc b) (λ i. leb (entry speeds i) (loss * (b - i))) i (omega (arith, h .before)) (le-leb (entry speeds i) (loss * (b - i)) (h .slow)) in
             (record { before = omega arith; slow = leb-true _ _ e }, m);
@@ -73,11 +71,8 @@ hold-is l t speeds m =
 
 -- block ends rise with the blocks
 ends-rise : (l : Line) (t : Train) → Admitted l t → (j k : ℕ) → j ≤ k → k < length (l .blockStarts) → entry (l .blockEnds) j ≤ entry (l .blockEnds) k
-ends-rise l t a j zero h m = let e : j ≡ 0 = omega arith in le-of-eq (ap (entry (l .blockEnds)) e)
-ends-rise l t a j (suc k) h m =
-    ⊎-elim (λ e. le-of-eq (ap (entry (l .blockEnds)) e))
-    (λ lt. omega (arith, ends-rise l t a j k (le-of-suc-le-suc lt) (omega arith), a .rule6 .after k m, a .rule6 .below (suc k) m))
-    (eq-or-lt-of-le h)
+ends-rise l t a =
+    rises-far (entry (l .blockEnds)) (length (l .blockStarts)) (λ k h. omega (arith, a .rule6 .after k h, a .rule6 .below (suc k) h))
 
 -- the tail clears every block before the last point
 pub clears-within : (l : Line) (t : Train) → Admitted l t → (j : ℕ) → j < length (l .blockStarts) → entry (l .blockEnds) j + trainCells l t < l .points
@@ -85,3 +80,26 @@ clears-within l t a j h =
     let last : length (l .blockEnds) - 1 ≡ length (l .blockStarts) - 1 = ap (λ (n : ℕ). n - 1) (a .parallel .blocks) in
     let fits : entry (l .blockEnds) (length (l .blockStarts) - 1) + trainCells l t ≤ l .points - 1 = rw last at (a .rule9 .fits) in
     omega (arith, ends-rise l t a j (length (l .blockStarts) - 1) (omega arith) (omega arith), a .rule3Line .points-least)
+
+-- ---- it never breaks rule 14
+
+pub hold-fits :
+    (l : Line) (t : Train) → Admitted l t → l .setUp < 65536 → l .release < 65536 → Rule14 (length (l .blockStarts)) (holdOf l t)
+hold-fits l t a s r =
+    let speeds = runRow l t in
+    let h : IsHold l t speeds (holdOf l t) = hold-is l t speeds (a .rule3Line .blocks-most) in
+    record {
+      count = h .count;
+      ordered = λ j m.
+          let (p, is, e) = h .begins j m in
+          let q : p < entry (l .blockEnds) j + trainCells l t = omega (arith, is .at-most, a .rule6 .below j m) in
+          omega (arith, h .ends j m, departs-before l t speeds p (entry (l .blockEnds) j + trainCells l t) q);
+      end-most = λ j m. omega (arith, h .ends j m, arrival-most l t a (entry (l .blockEnds) j + trainCells l t) (clears-within l t a j m));
+    }
+
+-- the hold of a train of an accepted file
+pub file-hold :
+    (file : List ℕ) → AreBytes file → fileRefusal file ≡ 0 → (k : ℕ) → k < trainCount file →
+    Rule14 (length (lineOf file .blockStarts)) (holdOf (lineOf file) (trainOf file k))
+unfolding lineOf
+file-hold file b ok k h = hold-fits (lineOf file) (trainOf file k) (admitted file ok k h) (word-most file b 8) (word-most file b 10)

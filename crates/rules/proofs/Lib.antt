@@ -3,6 +3,16 @@ pub mod File
 pub mod Rules
 pub mod Refusal
 pub mod Calls
+pub mod Cap
+pub mod Step
+pub mod Sweep
+pub mod Run
+pub mod Root
+pub mod Time
 pub mod Hold
+pub mod Sheet
+pub mod Beyond
+pub mod Demand
 pub mod Decimal
+pub mod Text
 pub mod Sample

@@ -17,7 +17,7 @@ use Rattle.rules.specs.File.{trainCount}
 use Rattle.rules.specs.Line.{lineOf, trainOf}
 use Rattle.rules.specs.Refusal.{Rule, rule, firstBroken, numberOr0, refusal, lineSizes, trainSizes, limitPointsRule, limitsRule, blocksRule, bandsRule, stopsRule, lastBlockRule, everyTrain, fileRules, trainThere, trainRules, buffersLong, runRules}
 use Rattle.rules.specs.Calls.{fileRefusal, trainRefusal, runRefusal}
-use Rattle.rules.specs.Admitted.{Admitted}
+use Rattle.rules.specs.Admitted.{Rule3Line, Admitted}
 use Rattle.rules.specs.Meaning.{noRule, IsFirstBroken, IsLowestBroken}
 use Rattle.rules.proofs.Count.{and-left, and-right, every-at}
 use Rattle.rules.proofs.File.{parallel}
@@ -194,14 +194,17 @@ module _ (file : List ℕ) where
   -- ---- an accepted file
 
   module _ (ok : fileRefusal file ≡ 0) where
-    pub sizes-kept : (lineSizes (lineOf file) (trainCount file) and everyTrain file trainSizes) ≡ true
+    sizes-kept : (lineSizes (lineOf file) (trainCount file) and everyTrain file trainSizes) ≡ true
     sizes-kept = file-lowest .none-broken ok 2 (omega arith)
+
+    pub line-sizes : Rule3Line (lineOf file) (trainCount file)
+    line-sizes = rule-3-line (lineOf file) (trainCount file) .0 (and-left _ _ sizes-kept)
 
     pub admitted : (k : ℕ) → k < trainCount file → Admitted (lineOf file) (trainOf file k)
     admitted k h =
         record {
           trainCount = trainCount file;
-          rule3Line = rule-3-line (lineOf file) (trainCount file) .0 (and-left _ _ sizes-kept);
+          rule3Line = line-sizes;
           rule3Train = rule-3-train (trainOf file k) .0 (every-at (λ k. trainSizes (trainOf file k)) (trainCount file) (and-right _ _ sizes-kept) k h);
           rule4 = rule-4 (lineOf file) .0 (file-lowest .none-broken ok 3 (omega arith));
           rule5 = rule-5 (lineOf file) .0 (file-lowest .none-broken ok 4 (omega arith));

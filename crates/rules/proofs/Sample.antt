@@ -44,10 +44,10 @@ pub record Marked : Type 0 where
   pub m3 : holdOf (lineOf sample) (trainOf sample 1) ≡ twoBlocks 0 20000000 42641488 77282976
   pub m4 : fileAnswers sample ≡ accepted 0 0 ∷ accepted 57282976 2 ∷ []
   pub m4-headway : headway (holdOf (lineOf sample) (trainOf sample 0)) (holdOf (lineOf sample) (trainOf sample 1)) ≡ headwayOf 57282976
-  -- "1 0 69282976 0" and "2 57282976 69282976 2" behind the header
+  -- "train start run block", "1 0 69282976 0" and "2 57282976 69282976 2", each with a line feed
   pub m4-text :
       programText sample ≡
-      header ++ (49 ∷ 32 ∷ 48 ∷ 32 ∷ 54 ∷ 57 ∷ 50 ∷ 56 ∷ 50 ∷ 57 ∷ 55 ∷ 54 ∷ 32 ∷ 48 ∷ 10 ∷ 50 ∷ 32 ∷ 53 ∷ 55 ∷ 50 ∷ 56 ∷ 50 ∷ 57 ∷ 55 ∷ 54 ∷ 32 ∷ 54 ∷ 57 ∷ 50 ∷ 56 ∷ 50 ∷ 57 ∷ 55 ∷ 54 ∷ 32 ∷ 50 ∷ 10 ∷ [])
+      116 ∷ 114 ∷ 97 ∷ 105 ∷ 110 ∷ 32 ∷ 115 ∷ 116 ∷ 97 ∷ 114 ∷ 116 ∷ 32 ∷ 114 ∷ 117 ∷ 110 ∷ 32 ∷ 98 ∷ 108 ∷ 111 ∷ 99 ∷ 107 ∷ 10 ∷ 49 ∷ 32 ∷ 48 ∷ 32 ∷ 54 ∷ 57 ∷ 50 ∷ 56 ∷ 50 ∷ 57 ∷ 55 ∷ 54 ∷ 32 ∷ 48 ∷ 10 ∷ 50 ∷ 32 ∷ 53 ∷ 55 ∷ 50 ∷ 56 ∷ 50 ∷ 57 ∷ 55 ∷ 54 ∷ 32 ∷ 54 ∷ 57 ∷ 50 ∷ 56 ∷ 50 ∷ 57 ∷ 55 ∷ 54 ∷ 32 ∷ 50 ∷ 10 ∷ []
   pub m5-zero : root 0 ≡ 0
   pub m5 : root 25920000 ≡ 5091
   pub m6-below : root 12959999 ≡ 3599
@@ -58,6 +58,8 @@ pub record Marked : Type 0 where
   pub m9-above : bandsStep 10 (30 ∷ 60 ∷ []) (100 ∷ 50 ∷ []) 8000000 ≡ 9296000
   pub m10-empty : fileRefusal [] ≡ 1
   pub m10-less : fileRefusal (take 65 sample) ≡ 1
+  -- "refused 1" and a line feed
+  pub m10-text : programText [] ≡ 114 ∷ 101 ∷ 102 ∷ 117 ∷ 115 ∷ 101 ∷ 100 ∷ 32 ∷ 49 ∷ 10 ∷ []
   pub m10-more : fileRefusal (sample ++ (0 ∷ [])) ≡ 2
   pub m11 : fileRefusal (sampleWith 101 6) ≡ 9
   pub m12 : fileRefusal (sampleWith 100 1) ≡ 8
@@ -117,6 +119,7 @@ tables = (
     m9-above = refl;
     m10-empty = refl;
     m10-less = refl;
+    m10-text = refl;
     m10-more = refl;
     m11 = refl;
     m12 = refl;

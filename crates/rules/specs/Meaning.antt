@@ -78,6 +78,7 @@ pub record Brakes (speeds : List ℕ) (loss b i : ℕ) : Type 0 where
 
 -- a is the greatest such point, or 0 if there is none
 pub record IsApproachPoint (speeds : List ℕ) (loss b a : ℕ) : Type 0 where
+  pub at-most : a ≤ b
   pub greatest : (i : ℕ) → Brakes speeds loss b i → Brakes speeds loss b a × (i ≤ a)
   pub none : ((i : ℕ) → Brakes speeds loss b i → ⊥) → a ≡ 0
 

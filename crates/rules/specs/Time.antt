@@ -56,8 +56,10 @@ runTimes l t = arrivals l t (runRow l t)
 abbrev pub Reaches : List ℕ → ℕ → Type 0
 Reaches speeds i = (j : ℕ) → j < i → (entry speeds j ≡ 0) × (entry speeds (suc j) ≡ 0) → ⊥
 
--- The third demand for a train: the row is the run, and no permitted rival reaches a point before the arrival written there.
+-- The third demand for a train: the row is the run, the times are its arrivals, and no permitted rival reaches a point before the
+-- arrival there.
 pub record FastestRun (l : Line) (t : Train) (speeds times : List ℕ) : Type 0 where
   pub isRun : IsRun l t speeds
+  pub timed : times ≡ arrivals l t speeds
   pub noneBefore :
       (rival : List ℕ) → Permitted l t rival → (i : ℕ) → i < l .points → Reaches rival i → entry times i ≤ arrival l t rival i

@@ -1,0 +1,202 @@
+-- The third demand for starts: every list of adding calls from a sheet just opened; and the headway call. Assumes nothing.
+use Prim.Native.Nat.{ℕ, zero, suc, _+_, _≤_, _<_}
+use mathlib.Core.Bool.{Bool, true, false, cond}
+use mathlib.Core.List.{List, [], _∷_}
+use mathlib.Core.Option.{Option, none, some}
+use mathlib.Core.Path.{_≡_, refl, sym, ap, _∙_}
+use native.Mathlib.Nat.{add-zero, zero-add, le-of-suc-le-suc}
+use native.Mathlib.Omega.{arith}
+use lib.ListN.{length, getD, take}
+use Rattle.rules.specs.Count.{entry}
+use Rattle.rules.specs.Hold.{Hold}
+use Rattle.rules.specs.Sheet.{Sheet, begin, end, freeTime, fresh, leastStart, blockNamed, sheetAfter}
+use Rattle.rules.specs.Refusal.{rule, firstBroken, countRule, roomRule, holdRule, addingRules}
+use Rattle.rules.specs.Calls.{Opening, Answer, accepted, refused, accept, added, opened, headwayOf, headway}
+use Rattle.rules.specs.Demand.{answers, leftBy, starts, trains, noHold, refusalOf, WithoutOverlap, ThirdDemand}
+use Rattle.rules.specs.Admitted.{Rule14}
+use Rattle.rules.specs.Meaning.{Clears}
+use Rattle.rules.proofs.Count.{within-means, within-holds}
+use Rattle.rules.proofs.Sheet.{rule-12, start-is, after-is, added-kept, either-way, all-kept, Sound, sound-after, sound-added, fresh-free, sound-fresh}
+use Rattle.rules.proofs.Beyond.{unread-list, unaltered-list}
+
+-- the first broken rule where 12 is kept
+abbrev judged : ℕ → ℕ → Hold → Option ℕ
+judged n trains h = firstBroken (rule 12 true ∷ rule 13 (roomRule trains) ∷ rule 14 (holdRule n h) ∷ [])
+
+judged-adding : (s : Sheet) → Sound s → (h : Hold) → firstBroken (addingRules s h) ≡ judged (s .blocks) (s .trains) h
+judged-adding s ok h = rw (rule-12 s .1 (ok .keeps))
+
+sound-left : (s : Sheet) → Sound s → (calls : List Hold) → Sound (leftBy s calls)
+unfolding leftBy
+sound-left s ok [] = ok
+sound-left s ok (h ∷ calls) = sound-left (added s h .sheet) (sound-added s ok h) calls
+
+-- The parts of the claim from any sheet on: it has trains already, and the starts ts of the trains hs clear its free times.
+abbrev NumbersFrom : Sheet → List Hold → List Answer → Type 0
+NumbersFrom s calls got =
+    (i : ℕ) → i < length calls →
+    refusalOf (getD got i (refused 0)) ≡ judged (s .blocks) (s .trains + length (starts (take i got))) (getD calls i noHold)
+
+abbrev AllClear : Sheet → List Hold → List ℕ → Type 0
+AllClear s hs ts = (j : ℕ) → j < length hs → Clears s (getD hs j noHold) (entry ts j)
+
+abbrev NoneEarlierFrom : Sheet → List Hold → List ℕ → Type 0
+NoneEarlierFrom s hs ts =
+    (rival : List ℕ) → length rival ≡ length hs → AllClear s hs rival → WithoutOverlap (s .blocks) hs rival →
+    (k : ℕ) → k < length hs → entry ts k ≤ entry rival k
+
+record From (s : Sheet) (calls : List Hold) (got : List Answer) : Type 0 where
+  answered : length got ≡ length calls
+  numbers : NumbersFrom s calls got
+  asMany : length (starts got) ≡ length (trains calls got)
+  clear : AllClear s (trains calls got) (starts got)
+  apart : WithoutOverlap (s .blocks) (trains calls got) (starts got)
+  least : NoneEarlierFrom s (trains calls got) (starts got)
+
+-- a refused call changes nothing
+module _ (s : Sheet) (ok : Sound s) (h : Hold) (calls : List Hold) (got : List Answer) (n : ℕ)
+    (e : firstBroken (addingRules s h) ≡ some n) (r : From s calls got) where
+  refused-numbers : NumbersFrom s (h ∷ calls) (refused n ∷ got)
+  unfolding starts
+  refused-numbers zero l = rw add-zero (sym e ∙ judged-adding s ok h)
+  refused-numbers (suc i) l = r .numbers i (le-of-suc-le-suc l)
+
+  refused-from : From s (h ∷ calls) (refused n ∷ got)
+  unfolding starts trains
+  refused-from =
+      record {
+        answered = ap suc (r .answered);
+        numbers = refused-numbers;
+        asMany = r .asMany;
+        clear = r .clear;
+        apart = r .apart;
+        least = r .least;
+      }
+
+-- an accepted call: the later trains go from the sheet after it
+module _ (s : Sheet) (ok : Sound s) (h : Hold) (calls : List Hold) (got : List Answer) (block : ℕ)
+    (e : firstBroken (addingRules s h) ≡ none) (r : From (sheetAfter s h (leastStart s h)) calls got) where
+  abbrev start : ℕ
+  start = leastStart s h
+
+  -- the free times left
+  freed : (b : ℕ) → b < s .blocks → freeTime (sheetAfter s h start) b ≡ start + end h b
+  freed b l = after-is s h start .within b l (omega (arith, ok .places))
+
+  accepted-numbers : NumbersFrom s (h ∷ calls) (accepted start block ∷ got)
+  unfolding starts sheetAfter
+  accepted-numbers zero l = rw add-zero (sym e ∙ judged-adding s ok h)
+  accepted-numbers (suc i) l =
+      let m : s .trains + suc (length (starts (take i got))) ≡ s .trains + 1 + length (starts (take i got)) = omega arith in
+      rw m (r .numbers i (le-of-suc-le-suc l))
+
+  later : (j b : ℕ) → j < length (trains calls got) → b < s .blocks → start + end h b ≤ entry (starts got) j + begin (getD (trains calls got) j noHold) b
+  unfolding sheetAfter
+  later j b l k = omega (arith, freed b k, r .clear j l b k)
+
+  accepted-clear : AllClear s (h ∷ trains calls got) (start ∷ starts got)
+  accepted-clear zero l = start-is s h .clears
+  accepted-clear (suc j) l = λ b k. omega (arith, start-is s h .clears b k, all-kept s h .0 e .2 .ordered b k, later j b (le-of-suc-le-suc l) k)
+
+  accepted-apart : WithoutOverlap (s .blocks) (h ∷ trains calls got) (start ∷ starts got)
+  unfolding sheetAfter
+  accepted-apart i zero b l m k = absurd (omega arith)
+  accepted-apart zero (suc j) b l m k = later j b (le-of-suc-le-suc m) k
+  accepted-apart (suc i) (suc j) b l m k = r .apart i j b (le-of-suc-le-suc l) (le-of-suc-le-suc m) k
+
+  accepted-least : NoneEarlierFrom s (h ∷ trains calls got) (start ∷ starts got)
+  unfolding sheetAfter
+  accepted-least [] q c w k l = absurd (omega arith)
+  accepted-least (x ∷ xs) q c w zero l = start-is s h .least x (c 0 (omega arith))
+  accepted-least (x ∷ xs) q c w (suc k) l =
+      let first : start ≤ x = start-is s h .least x (c 0 (omega arith)) in
+      r .least xs (omega arith) (λ j m b o. omega (arith, freed b o, w 0 (suc j) b (omega arith) (omega arith) o))
+      (λ i j b i-j m o. w (suc i) (suc j) b (omega arith) (omega arith) o)
+      k
+      (le-of-suc-le-suc l)
+
+  accepted-from : From s (h ∷ calls) (accepted start block ∷ got)
+  unfolding starts trains
+  accepted-from =
+      record {
+        answered = ap suc (r .answered);
+        numbers = accepted-numbers;
+        asMany = ap suc (r .asMany);
+        clear = accepted-clear;
+        apart = accepted-apart;
+        least = accepted-least;
+      }
+
+from : (s : Sheet) → Sound s → (calls : List Hold) → From s calls (answers s calls)
+unfolding answers starts trains
+from s ok [] =
+    record {
+      answered = refl;
+      numbers = λ i l. absurd (omega arith);
+      asMany = refl;
+      clear = λ j l. absurd (omega arith);
+      apart = λ i j b l m. absurd (omega arith);
+      least = λ rival q c w k l. absurd (omega arith);
+    }
+from s ok (h ∷ calls) =
+    either-way (λ a. From (a .sheet) calls (answers (a .sheet) calls) → From s (h ∷ calls) (a .answer ∷ answers (a .sheet) calls)) s h
+    (λ e. accepted-from s ok h calls (answers (sheetAfter s h (leastStart s h)) calls) (blockNamed s h (leastStart s h)) e)
+    (λ n e. refused-from s ok h calls (answers s calls) n e)
+    (from (added s h .sheet) (sound-added s ok h) calls)
+
+-- ---- a fresh sheet
+
+pub third-demand : (n : ℕ) → 1 ≤ n → n ≤ 32 → ThirdDemand n (fresh n)
+unfolding fresh
+third-demand n low high calls =
+    let ok : Sound (fresh n) = sound-fresh n low high in
+    let f : From (fresh n) calls (answers (fresh n) calls) = from (fresh n) ok calls in
+    record {
+      answered = f .answered;
+      numbers = λ i l. rw zero-add at (f .numbers i l);
+      sheets = λ i. rule-12 (leftBy (fresh n) (take i calls)) .1 (sound-left (fresh n) ok (take i calls) .keeps);
+      asMany = f .asMany;
+      apart = f .apart;
+      least = λ rival q w. f .least rival q (λ j m b o. omega (arith, fresh-free n b (omega arith))) w;
+      unread = unread-list (fresh n) calls;
+      unaltered = unaltered-list (fresh n) calls;
+    }
+
+pub opened-fresh : (n : ℕ) → countRule n ≡ true → opened n ≡ record { number = 0; sheet = fresh n }
+unfolding opened
+opened-fresh n e = rw e
+
+pub opened-count : (n : ℕ) → opened n .number ≡ 0 → countRule n ≡ true
+unfolding opened
+opened-count n = go (countRule n)
+  where
+    go : (b : Bool) → cond {A = Opening} b (record { number = 0; sheet = fresh n }) (record { number = 12; sheet = fresh 0 }) .number ≡ 0 → b ≡ true
+    go true e = refl
+    go false e = cc
+
+pub opened-demand : (n : ℕ) → opened n .number ≡ 0 → ThirdDemand n (opened n .sheet)
+opened-demand n e =
+    let c : countRule n ≡ true = opened-count n e in
+    let (low, high) = within-means 1 32 n c in
+    rw (opened-fresh n c) (third-demand n low high)
+
+-- ---- headway
+
+-- the first train starts at 0
+pub fresh-start : (n : ℕ) → n ≤ 32 → (h : Hold) → leastStart (fresh n) h ≡ 0
+unfolding fresh
+fresh-start n high h = omega (arith, start-is (fresh n) h .least 0 (λ b l. omega (arith, fresh-free n b (omega arith))))
+
+-- the headway is the second train's start after a first one at 0
+pub headway-of :
+    (first second : Hold) → 1 ≤ first .blocks → first .blocks ≤ 32 → Rule14 (first .blocks) first → Rule14 (first .blocks) second →
+    headway first second ≡ headwayOf (leastStart (sheetAfter (fresh (first .blocks)) first 0) second)
+unfolding headway fresh sheetAfter
+headway-of first second low high f g =
+    let s : Sheet = fresh (first .blocks) in
+    let ok : Sound s = sound-fresh (first .blocks) low high in
+    let z : leastStart s first ≡ 0 = fresh-start (first .blocks) high first in
+    let after : Sound (sheetAfter s first 0) = rw z at (sound-after s ok first refl f) in
+    let one : added s first ≡ accept s first = added-kept s first (all-kept s first .1 (ok .keeps, refl, f)) in
+    let two = added-kept (sheetAfter s first 0) second (all-kept (sheetAfter s first 0) second .1 (after .keeps, refl, g)) in
+    rw (opened-fresh (first .blocks) (within-holds 1 32 (first .blocks) low high), one, z, two)

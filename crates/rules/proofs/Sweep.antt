@@ -1,0 +1,38 @@
+-- The two sweeps, point by point. Assumes nothing.
+use Prim.Native.Nat.{ℕ, zero, suc, _+_, _-_, _≤_, _<_, min}
+use mathlib.Core.Path.{_≡_, refl}
+use native.Mathlib.Nat.{le-refl}
+use native.Mathlib.Omega.{arith}
+use Rattle.rules.specs.Run.{forwardSweep, backwardBefore, backwardSweep}
+
+module _ (caps step : ℕ → ℕ) where
+  pub forward-first : forwardSweep caps step 0 ≡ caps 0
+  unfolding forwardSweep
+  forward-first = refl
+
+  pub forward-next : (i j : ℕ) → j ≡ suc i → forwardSweep caps step j ≡ min (caps j) (step (forwardSweep caps step i))
+  unfolding forwardSweep
+  forward-next i j e = rw e
+
+  pub forward-le : (i : ℕ) → forwardSweep caps step i ≤ caps i
+  unfolding forwardSweep
+  forward-le zero = le-refl _
+  forward-le (suc i) = omega arith
+
+module _ (tops : ℕ → ℕ) (loss n : ℕ) where
+  pub backward-last : (i : ℕ) → n ≡ suc i → backwardSweep tops loss n i ≡ tops i
+  unfolding backwardSweep backwardBefore
+  backward-last i e = let z : n - suc i ≡ 0 = omega arith in rw z
+
+  pub backward-next : (i j : ℕ) → j ≡ suc i → j < n → backwardSweep tops loss n i ≡ min (tops i) (backwardSweep tops loss n j + loss)
+  unfolding backwardSweep backwardBefore
+  backward-next i j e h = let z : n - suc i ≡ suc (n - suc j) = omega arith in rw (z, e)
+
+  before-le : (k i : ℕ) → backwardBefore tops loss k i ≤ tops i
+  unfolding backwardBefore
+  before-le zero i = le-refl _
+  before-le (suc k) i = omega arith
+
+  pub backward-le : (i : ℕ) → backwardSweep tops loss n i ≤ tops i
+  unfolding backwardSweep
+  backward-le i = before-le (n - suc i) i
