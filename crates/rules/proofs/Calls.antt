@@ -1,14 +1,19 @@
--- What the file calls hand out. Assumes nothing.
-use Prim.Native.Nat.{ℕ, _+_, _≤_, _<_}
-use mathlib.Core.List.{List, []}
-use mathlib.Core.Path.{_≡_, refl}
+-- What the file calls hand out and leave in lent buffers. Assumes nothing.
+use Prim.Native.Nat.{ℕ, _+_, _-_, _≤_, _<_}
+use mathlib.Core.List.{List, [], _++_}
+use mathlib.Core.Path.{_≡_, ap, _∙_}
 use native.Mathlib.Omega.{arith}
-use lib.ListN.{length, length-drop}
-use lib.Seq.{length-take-le}
+use lib.ListN.{length, getD, take, drop, length-append, length-take, length-drop, List·getD-append}
+use lib.Seq.{length-take-le, getD-take, getD-drop, getD-append-add}
 use borrow.Author.Tests.{leb-true, eq-eqb, ne-eqb}
+use Rattle.rules.specs.Count.{entry}
 use Rattle.rules.specs.File.{recordAt, recordEnd, recordSize, recordBytes}
+use Rattle.rules.specs.Line.{lineOf, trainOf}
+use Rattle.rules.specs.Run.{runRow}
+use Rattle.rules.specs.Time.{runTimes}
 use Rattle.rules.specs.Refusal.{whole}
-use Rattle.rules.specs.Calls.{fileRefusal, trainRefusal, trainRecord}
+use Rattle.rules.specs.Calls.{written, trainRefusal, trainRecord, runRefusal, speedsAfter, timesAfter}
+use Rattle.rules.specs.Meaning.{IsWritten}
 use Rattle.rules.proofs.File.{record-within}
 use Rattle.rules.proofs.Refusal.{file-lowest, train-accepted}
 
@@ -36,3 +41,38 @@ module _ (file : List ℕ) (k : ℕ) where
   record-length z =
       rw (record-handed z)
       (length-take-le _ _ (rw length-drop (omega (arith, record-ends z, record-size file (recordAt file k)))))
+
+-- ---- lent buffers
+
+pub written-is : (buffer : List ℕ) (at : ℕ) (values : List ℕ) → at + length values ≤ length buffer → IsWritten buffer at values (written buffer at values)
+unfolding written
+written-is buffer at values h =
+    record {
+      inside = λ i l. shifted i ∙ List·getD-append values rest 0 i l;
+      before = λ i l. List·getD-append (take at buffer) (values ++ rest) 0 i (rw front l) ∙ getD-take at buffer i 0 l;
+      behind = λ i l.
+          let e : i ≡ at + (length values + (i - (at + length values))) = omega arith in
+          rw e (shifted (length values + (i - (at + length values))) ∙ getD-append-add values rest (i - (at + length values)) 0 ∙ getD-drop (at + length values) buffer (i - (at + length values)) 0 ∙ ap (λ (j : ℕ). getD buffer j 0) (omega arith));
+      places = simp (length-append, length-take, length-drop) (omega arith);
+    }
+  where
+    rest : List ℕ
+    rest = drop (at + length values) buffer
+
+    front : length (take at buffer) ≡ at
+    front = length-take-le at buffer (omega arith)
+
+    shifted : (i : ℕ) → entry (take at buffer ++ (values ++ rest)) (at + i) ≡ entry (values ++ rest) i
+    shifted i = let g : entry (take at buffer ++ (values ++ rest)) (length (take at buffer) + i) ≡ entry (values ++ rest) i = getD-append-add (take at buffer) (values ++ rest) i 0 in rw front at g
+
+module _ (file : List ℕ) (k : ℕ) (speeds times : List ℕ) where
+  pub run-writes :
+      runRefusal file k (length speeds) (length times) ≡ 0 →
+      (speedsAfter file k speeds times ≡ written speeds 0 (runRow (lineOf file) (trainOf file k)))
+      × (timesAfter file k speeds times ≡ written times 0 (runTimes (lineOf file) (trainOf file k)))
+  unfolding speedsAfter timesAfter
+  run-writes z = let e = eq-eqb (runRefusal file k (length speeds) (length times)) 0 z in (rw e, rw e)
+
+  pub run-leaves : (runRefusal file k (length speeds) (length times) ≡ 0 → ⊥) → (speedsAfter file k speeds times ≡ speeds) × (timesAfter file k speeds times ≡ times)
+  unfolding speedsAfter timesAfter
+  run-leaves h = let e = ne-eqb (runRefusal file k (length speeds) (length times)) 0 h in (rw e, rw e)

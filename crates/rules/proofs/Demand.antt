@@ -1,4 +1,4 @@
--- The third demand for starts: every list of adding calls from a sheet just opened; and the headway call. Assumes nothing.
+-- The third demand for starts: every list of adding calls from a sheet just opened. Assumes nothing.
 use Prim.Native.Nat.{ℕ, zero, suc, _+_, _≤_, _<_}
 use mathlib.Core.Bool.{Bool, true, false, cond}
 use mathlib.Core.List.{List, [], _∷_}
@@ -11,12 +11,11 @@ use Rattle.rules.specs.Count.{entry}
 use Rattle.rules.specs.Hold.{Hold}
 use Rattle.rules.specs.Sheet.{Sheet, begin, end, freeTime, fresh, leastStart, blockNamed, sheetAfter}
 use Rattle.rules.specs.Refusal.{rule, firstBroken, countRule, roomRule, holdRule, addingRules}
-use Rattle.rules.specs.Calls.{Opening, Answer, accepted, refused, accept, added, opened, headwayOf, headway}
+use Rattle.rules.specs.Calls.{Opening, Answer, accepted, refused, added, opened}
 use Rattle.rules.specs.Demand.{answers, leftBy, starts, trains, noHold, refusalOf, WithoutOverlap, ThirdDemand}
-use Rattle.rules.specs.Admitted.{Rule14}
 use Rattle.rules.specs.Meaning.{Clears}
-use Rattle.rules.proofs.Count.{within-means, within-holds}
-use Rattle.rules.proofs.Sheet.{rule-12, start-is, after-is, added-kept, either-way, all-kept, Sound, sound-after, sound-added, fresh-free, sound-fresh}
+use Rattle.rules.proofs.Count.{within-means}
+use Rattle.rules.proofs.Sheet.{rule-12, start-is, after-is, either-way, all-kept, Sound, sound-added, fresh-free, sound-fresh}
 use Rattle.rules.proofs.Beyond.{unread-list, unaltered-list}
 
 -- the first broken rule where 12 is kept
@@ -166,6 +165,10 @@ pub opened-fresh : (n : ℕ) → countRule n ≡ true → opened n ≡ record { 
 unfolding opened
 opened-fresh n e = rw e
 
+pub opened-refused : (n : ℕ) → countRule n ≡ false → opened n ≡ record { number = 12; sheet = fresh 0 }
+unfolding opened
+opened-refused n e = rw e
+
 pub opened-count : (n : ℕ) → opened n .number ≡ 0 → countRule n ≡ true
 unfolding opened
 opened-count n = go (countRule n)
@@ -179,24 +182,3 @@ opened-demand n e =
     let c : countRule n ≡ true = opened-count n e in
     let (low, high) = within-means 1 32 n c in
     rw (opened-fresh n c) (third-demand n low high)
-
--- ---- headway
-
--- the first train starts at 0
-pub fresh-start : (n : ℕ) → n ≤ 32 → (h : Hold) → leastStart (fresh n) h ≡ 0
-unfolding fresh
-fresh-start n high h = omega (arith, start-is (fresh n) h .least 0 (λ b l. omega (arith, fresh-free n b (omega arith))))
-
--- the headway is the second train's start after a first one at 0
-pub headway-of :
-    (first second : Hold) → 1 ≤ first .blocks → first .blocks ≤ 32 → Rule14 (first .blocks) first → Rule14 (first .blocks) second →
-    headway first second ≡ headwayOf (leastStart (sheetAfter (fresh (first .blocks)) first 0) second)
-unfolding headway fresh sheetAfter
-headway-of first second low high f g =
-    let s : Sheet = fresh (first .blocks) in
-    let ok : Sound s = sound-fresh (first .blocks) low high in
-    let z : leastStart s first ≡ 0 = fresh-start (first .blocks) high first in
-    let after : Sound (sheetAfter s first 0) = rw z at (sound-after s ok first refl f) in
-    let one : added s first ≡ accept s first = added-kept s first (all-kept s first .1 (ok .keeps, refl, f)) in
-    let two = added-kept (sheetAfter s first 0) second (all-kept (sheetAfter s first 0) second .1 (after .keeps, refl, g)) in
-    rw (opened-fresh (first .blocks) (within-holds 1 32 (first .blocks) low high), one, z, two)

@@ -1,6 +1,6 @@
 -- The places of the file: records follow one another, the arrays have the announced lengths, and the literal scan reads to the
 -- announced end exactly where rule 1 is kept. Assumes nothing.
-use Prim.Native.Nat.{ℕ, zero, suc, _+_, _*_, _≤_, _<_}
+use Prim.Native.Nat.{ℕ, zero, suc, _+_, _*_, _/_, _%_, _≤_, _<_}
 use mathlib.Core.Bool.{Bool, true, false, cond}
 use mathlib.Core.List.{List}
 use mathlib.Core.Logic.{_↔_, ⊎-elim}
@@ -17,6 +17,21 @@ use Rattle.rules.specs.Line.{Line, Train, lineOf, trainAt}
 use Rattle.rules.specs.Refusal.{whole, nothingAfter}
 use Rattle.rules.specs.Admitted.{Parallel}
 use Rattle.rules.proofs.Count.{length-row, entry-row}
+
+-- ---- numbers
+
+-- a number whose low byte stands first is read back
+pub word-is : (file : List ℕ) (place n : ℕ) → entry file place ≡ n % 256 → entry file (place + 1) ≡ n / 256 → word file place ≡ n
+unfolding word
+word-is file place n l h = omega arith
+
+-- the file's bytes are bytes
+abbrev pub AreBytes : List ℕ → Type 0
+AreBytes file = (i : ℕ) → entry file i < 256
+
+pub word-most : (file : List ℕ) → AreBytes file → (place : ℕ) → word file place < 65536
+unfolding word
+word-most file b place = omega (arith, b place, b (place + 1))
 
 -- ---- the arrays
 
@@ -37,14 +52,6 @@ parallel file at =
       bands = length-words file _ (bandCount file at) ∙ sym (length-words file _ (bandCount file at));
       stops = length-words file _ (stopCount file at) ∙ sym (length-words file _ (stopCount file at));
     }
-
--- the file's bytes are bytes
-abbrev pub AreBytes : List ℕ → Type 0
-AreBytes file = (i : ℕ) → entry file i < 256
-
-pub word-most : (file : List ℕ) → AreBytes file → (place : ℕ) → word file place < 65536
-unfolding word
-word-most file b place = omega (arith, b place, b (place + 1))
 
 -- ---- the records, one after the other
 

@@ -13,6 +13,7 @@ pub mod Hold
 pub mod Sheet
 pub mod Beyond
 pub mod Demand
+pub mod Headway
 pub mod Decimal
 pub mod Text
 pub mod Sample

@@ -144,6 +144,15 @@ pub record IsLowestBroken (rules : List Rule) (n : ℕ) : Type 0 where
   pub broken : (n ≡ 0 → ⊥) → (i : ℕ) × (i < length rules) × (getD rules i noRule .number ≡ n) × (getD rules i noRule .kept ≡ false)
   pub lowest : (i : ℕ) → i < length rules → getD rules i noRule .kept ≡ false → n ≤ getD rules i noRule .number
 
+-- ---- lent buffers
+
+-- the buffer after the values are written from place `at` on: the other entries, and the length, stay
+pub record IsWritten (buffer : List ℕ) (at : ℕ) (values after : List ℕ) : Type 0 where
+  pub inside : (i : ℕ) → i < length values → entry after (at + i) ≡ entry values i
+  pub before : (i : ℕ) → i < at → entry after i ≡ entry buffer i
+  pub behind : (i : ℕ) → at + length values ≤ i → entry after i ≡ entry buffer i
+  pub places : length after ≡ length buffer
+
 -- ---- text
 
 -- the value of decimal digits, given what stands in front of them
