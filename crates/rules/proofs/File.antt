@@ -6,6 +6,7 @@ use mathlib.Core.List.{List}
 use mathlib.Core.Logic.{_↔_, ⊎-elim}
 use mathlib.Core.Path.{_≡_, refl, sym, ap, _∙_}
 use native.Mathlib.Nat.{le-antisymm, le-of-eq, le-of-suc-le-suc, eq-or-lt-of-le, zero-add, add-zero}
+use native.Mathlib.Numerals.{add-one}
 use native.Mathlib.Omega.{arith}
 use lib.Dec.{leb}
 use lib.ListN.{length}
@@ -65,6 +66,24 @@ records-grow file i (suc j) l =
 pub trains-within : (file : List ℕ) → trainsAt file ≤ announcedEnd file
 unfolding recordAt
 trains-within file = records-grow file 0 (trainCount file) (omega arith)
+
+-- ---- a walk through the records: `at` is the place of record k
+
+pub record-first : (file : List ℕ) → recordAt file 0 ≡ trainsAt file
+unfolding recordAt
+record-first file = refl
+
+module _ (file : List ℕ) (k at : ℕ) (e : at ≡ recordAt file k) where
+  pub record-next : recordEnd file at ≡ recordAt file (k + 1)
+  unfolding recordAt
+  record-next = rw (e, add-one)
+
+  pub record-inside : k < trainCount file → recordEnd file at ≤ announcedEnd file
+  unfolding recordAt
+  record-inside h = rw e (records-grow file (suc k) (trainCount file) h)
+
+  pub records-end : k ≡ trainCount file → at ≡ announcedEnd file
+  records-end t = e ∙ ap (recordAt file) t
 
 -- a train's record ends within the announced end
 pub record-within : (file : List ℕ) (k : ℕ) → k < trainCount file → recordEnd file (recordAt file k) ≤ announcedEnd file

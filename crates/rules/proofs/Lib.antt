@@ -1,4 +1,6 @@
 pub mod Count
+pub mod Loops
+pub mod Fill
 pub mod File
 pub mod Rules
 pub mod Refusal

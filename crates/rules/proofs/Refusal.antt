@@ -1,9 +1,9 @@
 -- The number of refusal is the first broken rule's, for file calls the lowest; an accepted file gives the rules' properties for each
 -- of its trains. Assumes nothing.
-use Prim.Native.Nat.{ℕ, zero, suc, _+_, _≤_, _<_}
+use Prim.Native.Nat.{ℕ, zero, suc, _+_, _≤_, _<_, min}
 use mathlib.Core.Bool.{Bool, true, false, cond, false≢true, true≢false}
 use mathlib.Core.List.{List, [], _∷_, _++_}
-use mathlib.Core.Logic.{⊎-elim}
+use mathlib.Core.Logic.{_⊎_, inl, inr, ⊎-elim}
 use mathlib.Core.Option.{Option, none, some}
 use mathlib.Core.Path.{_≡_, refl, sym, ap, _∙_}
 use native.Mathlib.Decide.{decLt}
@@ -11,11 +11,11 @@ use native.Mathlib.Nat.{le-of-eq, eq-or-lt-of-le}
 use native.Mathlib.Omega.{arith}
 use lib.Dec.{eqb}
 use lib.ListN.{length, getD}
-use borrow.Author.Tests.{leb-true, ltb-true, eqb-true, eqb-false, eq-eqb, ne-eqb}
+use borrow.Author.Tests.{le-leb, lt-leb, leb-true, ltb-true, lt-ltb, le-ltb, eqb-true, eqb-false, eq-eqb, ne-eqb}
 use Rattle.rules.specs.Count.{_and_, every}
-use Rattle.rules.specs.File.{trainCount}
+use Rattle.rules.specs.File.{trainCount, announcedEnd}
 use Rattle.rules.specs.Line.{lineOf, trainOf}
-use Rattle.rules.specs.Refusal.{Rule, rule, firstBroken, numberOr0, refusal, lineSizes, trainSizes, limitPointsRule, limitsRule, blocksRule, bandsRule, stopsRule, lastBlockRule, everyTrain, fileRules, trainThere, trainRules, buffersLong, runRules}
+use Rattle.rules.specs.Refusal.{Rule, rule, firstBroken, numberOr0, refusal, lowerOf, whole, nothingAfter, lineSizes, trainSizes, limitPointsRule, limitsRule, blocksRule, bandsRule, stopsRule, lastBlockRule, everyTrain, fileRules, trainThere, trainRules, buffersLong, runRules}
 use Rattle.rules.specs.Calls.{fileRefusal, trainRefusal, runRefusal}
 use Rattle.rules.specs.Admitted.{Rule3Line, Admitted}
 use Rattle.rules.specs.Meaning.{noRule, IsFirstBroken, IsLowestBroken}
@@ -71,6 +71,16 @@ first-broken-is (r ∷ rs) = go (r .kept) refl (first-broken-is rs)
     go true e f = kept-first r rs e (firstBroken rs) f
     go false e f = broken-first r rs e
 
+-- the number of a list of rules, one rule after the other
+pub refusal-none : refusal [] ≡ 0
+unfolding refusal firstBroken
+refusal-none = refl
+
+pub refusal-cons : (n : ℕ) (b : Bool) (rs : List Rule) → refusal (rule n b ∷ rs) ≡ cond b (refusal rs) n
+unfolding refusal firstBroken
+refusal-cons n true rs = refl
+refusal-cons n false rs = refl
+
 -- ---- rules whose numbers rise
 
 -- each number is above the one before, and the first above m
@@ -119,42 +129,109 @@ lowest-broken rules s = go (firstBroken rules) (first-broken-is rules)
             i-le : (j < i → ⊥) → i ≤ j
             i-le g = omega arith
 
--- ---- one rule more behind others
+-- ---- rules behind others
 
-module _ (n : ℕ) (b : Bool) where
-  more-is : (m : ℕ) (rs : List Rule) → Rising m rs → refusal (rs ++ (rule n b ∷ [])) ≡ cond (eqb (refusal rs) 0) (cond b 0 n) (refusal rs)
-  unfolding refusal firstBroken
-  more-is m [] s = go b
-    where
-      go : (b : Bool) → numberOr0 (cond b none (some n)) ≡ cond b 0 n
-      go true = refl
-      go false = refl
-  more-is m (r ∷ rs) s = go (r .kept) (more-is (r .number) rs (s .1))
-    where
-      go : (c : Bool) → numberOr0 (firstBroken (rs ++ (rule n b ∷ []))) ≡ cond (eqb (numberOr0 (firstBroken rs)) 0) (cond b 0 n) (numberOr0 (firstBroken rs)) →
-          numberOr0 (cond c (firstBroken (rs ++ (rule n b ∷ []))) (some (r .number))) ≡
-          cond (eqb (numberOr0 (cond c (firstBroken rs) (some (r .number)))) 0) (cond b 0 n) (numberOr0 (cond c (firstBroken rs) (some (r .number))))
-      go true h = h
-      go false h = rw (ne-eqb (r .number) 0 (λ z. omega (arith, s .0)))
+append-is : (m : ℕ) (rs qs : List Rule) → Rising m rs → refusal (rs ++ qs) ≡ cond (eqb (refusal rs) 0) (refusal qs) (refusal rs)
+unfolding refusal firstBroken
+append-is m [] qs s = refl
+append-is m (r ∷ rs) qs s = go (r .kept) (append-is (r .number) rs qs (s .1))
+  where
+    go : (c : Bool) → numberOr0 (firstBroken (rs ++ qs)) ≡ cond (eqb (numberOr0 (firstBroken rs)) 0) (numberOr0 (firstBroken qs)) (numberOr0 (firstBroken rs)) →
+        numberOr0 (cond c (firstBroken (rs ++ qs)) (some (r .number))) ≡
+        cond (eqb (numberOr0 (cond c (firstBroken rs) (some (r .number)))) 0) (numberOr0 (firstBroken qs)) (numberOr0 (cond c (firstBroken rs) (some (r .number))))
+    go true h = h
+    go false h = rw (ne-eqb (r .number) 0 (λ z. omega (arith, s .0)))
 
-module _ (rs : List Rule) (s : Rising 0 rs) (n : ℕ) (b : Bool) where
+module _ (rs qs : List Rule) (s : Rising 0 rs) where
   -- the rules in front come first
-  pub more-refused : (refusal rs ≡ 0 → ⊥) → refusal (rs ++ (rule n b ∷ [])) ≡ refusal rs
-  more-refused h = rw (more-is n b 0 rs s, ne-eqb (refusal rs) 0 h)
+  pub append-refused : (refusal rs ≡ 0 → ⊥) → refusal (rs ++ qs) ≡ refusal rs
+  append-refused h = rw (append-is 0 rs qs s, ne-eqb (refusal rs) 0 h)
 
-  pub more-kept : refusal rs ≡ 0 → b ≡ true → refusal (rs ++ (rule n b ∷ [])) ≡ 0
-  more-kept z e = rw (more-is n b 0 rs s, eq-eqb (refusal rs) 0 z, e)
+  pub append-kept : refusal rs ≡ 0 → refusal (rs ++ qs) ≡ refusal qs
+  append-kept z = rw (append-is 0 rs qs s, eq-eqb (refusal rs) 0 z)
 
-  pub more-broken : refusal rs ≡ 0 → b ≡ false → refusal (rs ++ (rule n b ∷ [])) ≡ n
-  more-broken z e = rw (more-is n b 0 rs s, eq-eqb (refusal rs) 0 z, e)
-
-  pub more-accepted : 0 < n → refusal (rs ++ (rule n b ∷ [])) ≡ 0 → (refusal rs ≡ 0) × (b ≡ true)
-  more-accepted p z = go (eqb (refusal rs) 0) b refl (sym (more-is n b 0 rs s) ∙ z)
+  pub append-accepted : refusal (rs ++ qs) ≡ 0 → (refusal rs ≡ 0) × (refusal qs ≡ 0)
+  append-accepted z = go (eqb (refusal rs) 0) refl (sym (append-is 0 rs qs s) ∙ z)
     where
-      go : (e c : Bool) → eqb (refusal rs) 0 ≡ e → cond e (cond c 0 n) (refusal rs) ≡ 0 → (refusal rs ≡ 0) × (c ≡ true)
-      go true true q h = (eqb-true (refusal rs) 0 q, refl)
-      go true false q h = absurd (omega arith)
-      go false c q h = absurd (eqb-false (refusal rs) 0 q h)
+      go : (e : Bool) → eqb (refusal rs) 0 ≡ e → cond e (refusal qs) (refusal rs) ≡ 0 → (refusal rs ≡ 0) × (refusal qs ≡ 0)
+      go true q h = (eqb-true (refusal rs) 0 q, h)
+      go false q h = absurd (eqb-false (refusal rs) 0 q h)
+
+-- one rule more
+pub one-accepted : (n : ℕ) (b : Bool) → 0 < n → refusal (rule n b ∷ []) ≡ 0 → b ≡ true
+one-accepted n true p z = refl
+one-accepted n false p z = absurd (omega (arith, refusal-cons n false []))
+
+-- ---- rules that are kept by two things if each keeps them
+
+-- no rule is broken, or none up to number m
+abbrev Beyond : ℕ → ℕ → Type 0
+Beyond m x = (x ≡ 0) ⊎ (m < x)
+
+beyond-cons : (m n : ℕ) (b : Bool) (x : ℕ) → m < n → Beyond n x → Beyond m (cond b x n)
+beyond-cons m n true x h r = ⊎-elim (λ e. inl e) (λ l. inr (omega arith)) r
+beyond-cons m n false x h r = inr h
+
+lower-cons : (n : ℕ) (a b : Bool) (x y z : ℕ) → 0 < n → Beyond n x → Beyond n y → z ≡ lowerOf x y → cond (a and b) z n ≡ lowerOf (cond a x n) (cond b y n)
+unfolding _and_ lowerOf
+lower-cons n true true x y z p r s e = e
+lower-cons n true false x y z p r s e = go (eqb x 0) refl r
+  where
+    go : (t : Bool) → eqb x 0 ≡ t → Beyond n x → n ≡ cond t n (cond (eqb n 0) x (min x n))
+    go true q r = refl
+    go false q r = rw (ne-eqb n 0 (λ w. omega arith)) (⊎-elim (λ w. absurd (eqb-false x 0 q w)) (λ l. omega arith) r)
+lower-cons n false true x y z p r s e = rw (ne-eqb n 0 (λ w. omega arith)) (go (eqb y 0) refl s)
+  where
+    go : (t : Bool) → eqb y 0 ≡ t → Beyond n y → n ≡ cond t n (min n y)
+    go true q r = refl
+    go false q r = ⊎-elim (λ w. absurd (eqb-false y 0 q w)) (λ l. omega arith) r
+lower-cons n false false x y z p r s e = rw (ne-eqb n 0 (λ w. omega arith)) (omega arith)
+
+-- rules 7 to 9 of some trains and of one more
+pub lower-three :
+    (a₇ b₇ a₈ b₈ a₉ b₉ : Bool) →
+    refusal (rule 7 (a₇ and b₇) ∷ rule 8 (a₈ and b₈) ∷ rule 9 (a₉ and b₉) ∷ []) ≡
+    lowerOf (refusal (rule 7 a₇ ∷ rule 8 a₈ ∷ rule 9 a₉ ∷ [])) (refusal (rule 7 b₇ ∷ rule 8 b₈ ∷ rule 9 b₉ ∷ []))
+lower-three a₇ b₇ a₈ b₈ a₉ b₉ =
+    simp (refusal-cons, refusal-none)
+    (lower-cons 7 a₇ b₇ _ _ _ (omega arith) (to8 a₈ a₉) (to8 b₈ b₉)
+    (lower-cons 8 a₈ b₈ _ _ _ (omega arith) (to9 a₉) (to9 b₉)
+    (lower-cons 9 a₉ b₉ 0 0 0 (omega arith) (inl refl) (inl refl) none-lower)))
+  where
+    none-lower : 0 ≡ lowerOf 0 0
+    none-lower = unfold lowerOf in refl
+
+    to9 : (b : Bool) → Beyond 8 (cond b 0 9)
+    to9 b = beyond-cons 8 9 b 0 (omega arith) (inl refl)
+
+    to8 : (a b : Bool) → Beyond 7 (cond a (cond b 0 9) 8)
+    to8 a b = beyond-cons 7 8 a (cond b 0 9) (omega arith) (to9 b)
+
+-- ---- rules 1 and 2, by the announced end and the file's length
+
+abbrev pub structureRules : List ℕ → List Rule
+structureRules file = rule 1 (whole file) ∷ rule 2 (nothingAfter file) ∷ []
+
+module _ (file : List ℕ) where
+  pub ends-early : length file < announcedEnd file → refusal (structureRules file) ≡ 1
+  unfolding whole
+  ends-early h = rw (refusal-cons, lt-leb (announcedEnd file) (length file) h)
+
+  pub bytes-follow : announcedEnd file < length file → refusal (structureRules file) ≡ 2
+  unfolding whole nothingAfter
+  bytes-follow h =
+      rw (refusal-cons, le-leb (announcedEnd file) (length file) (omega arith), refusal-cons, lt-leb (length file) (announcedEnd file) h)
+
+  pub ends-there : announcedEnd file ≡ length file → refusal (structureRules file) ≡ 0
+  unfolding whole nothingAfter
+  ends-there e =
+      rw (
+        refusal-cons,
+        le-leb (announcedEnd file) (length file) (omega arith),
+        refusal-cons,
+        le-leb (length file) (announcedEnd file) (omega arith),
+        refusal-none,
+      )
 
 -- ---- the file calls
 
@@ -181,15 +258,53 @@ module _ (file : List ℕ) where
   pub train-accepted : (k : ℕ) → trainRefusal file k ≡ 0 → (fileRefusal file ≡ 0) × (k < trainCount file)
   unfolding fileRefusal trainRefusal trainThere
   train-accepted k z =
-      let both = more-accepted (fileRules file) file-rising 10 (trainThere file k) (omega arith) z in
-      (both .0, ltb-true k (trainCount file) (both .1))
+      let both = append-accepted (fileRules file) (rule 10 (trainThere file k) ∷ []) file-rising z in
+      (both .0, ltb-true k (trainCount file) (one-accepted 10 (trainThere file k) (omega arith) (both .1)))
+
+  -- the file's rules come first, then 10, then 11
+  pub train-refused : (k : ℕ) → (fileRefusal file ≡ 0 → ⊥) → trainRefusal file k ≡ fileRefusal file
+  unfolding fileRefusal trainRefusal
+  train-refused k h = append-refused (fileRules file) (rule 10 (trainThere file k) ∷ []) file-rising h
+
+  pub train-missing : (k : ℕ) → fileRefusal file ≡ 0 → trainCount file ≤ k → trainRefusal file k ≡ 10
+  unfolding fileRefusal trainRefusal trainThere
+  train-missing k z h =
+      append-kept (fileRules file) (rule 10 (trainThere file k) ∷ []) file-rising z ∙ refusal-cons 10 (trainThere file k) [] ∙ rw (le-ltb k (trainCount file) h)
+
+  pub train-there : (k : ℕ) → fileRefusal file ≡ 0 → k < trainCount file → trainRefusal file k ≡ 0
+  unfolding fileRefusal trainRefusal trainThere
+  train-there k z h =
+      append-kept (fileRules file) (rule 10 (trainThere file k) ∷ []) file-rising z ∙ refusal-cons 10 (trainThere file k) [] ∙ rw (lt-ltb k (trainCount file) h, refusal-none)
+
+  pub run-refused : (k speeds times : ℕ) → (trainRefusal file k ≡ 0 → ⊥) → runRefusal file k speeds times ≡ trainRefusal file k
+  unfolding trainRefusal runRefusal
+  run-refused k speeds times h = append-refused (trainRules file k) (rule 11 (buffersLong (lineOf file) speeds times) ∷ []) (train-rising k) h
+
+  run-by-buffers : (k speeds times : ℕ) → trainRefusal file k ≡ 0 → runRefusal file k speeds times ≡ cond (buffersLong (lineOf file) speeds times) 0 11
+  unfolding trainRefusal runRefusal
+  run-by-buffers k speeds times z =
+      append-kept (trainRules file k) (rule 11 (buffersLong (lineOf file) speeds times) ∷ []) (train-rising k) z
+      ∙ refusal-cons 11 (buffersLong (lineOf file) speeds times) [] ∙ rw refusal-none
+
+  pub run-short-speeds : (k speeds times : ℕ) → trainRefusal file k ≡ 0 → speeds < lineOf file .points → runRefusal file k speeds times ≡ 11
+  unfolding buffersLong _and_
+  run-short-speeds k speeds times z h = rw (run-by-buffers k speeds times z, lt-leb (lineOf file .points) speeds h)
+
+  pub run-short-times : (k speeds times : ℕ) → trainRefusal file k ≡ 0 → lineOf file .points ≤ speeds → times < lineOf file .points → runRefusal file k speeds times ≡ 11
+  unfolding buffersLong _and_
+  run-short-times k speeds times z g h = rw (run-by-buffers k speeds times z, le-leb (lineOf file .points) speeds g, lt-leb (lineOf file .points) times h)
+
+  pub run-long : (k speeds times : ℕ) → trainRefusal file k ≡ 0 → lineOf file .points ≤ speeds → lineOf file .points ≤ times → runRefusal file k speeds times ≡ 0
+  unfolding buffersLong _and_
+  run-long k speeds times z g h = rw (run-by-buffers k speeds times z, le-leb (lineOf file .points) speeds g, le-leb (lineOf file .points) times h)
 
   -- a run that is not refused: the train is not, and both buffers have P entries
   pub run-accepted : (k speeds times : ℕ) → runRefusal file k speeds times ≡ 0 → (trainRefusal file k ≡ 0) × (lineOf file .points ≤ speeds) × (lineOf file .points ≤ times)
   unfolding runRefusal trainRefusal buffersLong
   run-accepted k speeds times z =
-      let both = more-accepted (trainRules file k) (train-rising k) 11 (buffersLong (lineOf file) speeds times) (omega arith) z in
-      (both .0, leb-true _ speeds (and-left _ _ (both .1)), leb-true _ times (and-right _ _ (both .1)))
+      let both = append-accepted (trainRules file k) (rule 11 (buffersLong (lineOf file) speeds times) ∷ []) (train-rising k) z in
+      let long = one-accepted 11 (buffersLong (lineOf file) speeds times) (omega arith) (both .1) in
+      (both .0, leb-true _ speeds (and-left _ _ long), leb-true _ times (and-right _ _ long))
 
   -- ---- an accepted file
 

@@ -1,5 +1,5 @@
 -- Document 01, "Numbers of refusal, in checking order". Each test passes where its rule is kept.
-use Prim.Native.Nat.{ℕ, _+_, _-_, _*_, _^_}
+use Prim.Native.Nat.{ℕ, _+_, _-_, _*_, _^_, min}
 use mathlib.Core.Bool.{Bool, not, cond}
 use mathlib.Core.List.{List, [], _∷_, _++_}
 use mathlib.Core.Option.{Option, none, some}
@@ -33,6 +33,10 @@ numberOr0 (some n) = n
 
 unfoldable pub refusal : List Rule → ℕ
 refusal rules = numberOr0 (firstBroken rules)
+
+-- the lower of two numbers of refusal, of which 0 is none
+unfoldable pub lowerOf : ℕ → ℕ → ℕ
+lowerOf a b = cond (eqb a 0) b (cond (eqb b 0) a (min a b))
 
 -- ---- the rules of the file
 
@@ -114,6 +118,18 @@ fileRules file =
     ∷ rule 7 (everyTrain file bandsRule)
     ∷ rule 8 (everyTrain file (stopsRule (lineOf file)))
     ∷ rule 9 (everyTrain file (lastBlockRule (lineOf file)))
+    ∷ []
+
+-- the rules of a line and one train, from 3 on
+abbrev pub pairRules : Line → Train → List Rule
+pairRules l t =
+    rule 3 (lineSizes l 1 and trainSizes t)
+    ∷ rule 4 (limitPointsRule l)
+    ∷ rule 5 (limitsRule l)
+    ∷ rule 6 (blocksRule l)
+    ∷ rule 7 (bandsRule t)
+    ∷ rule 8 (stopsRule l t)
+    ∷ rule 9 (lastBlockRule l t)
     ∷ []
 
 -- 10. The train number asked for is below T.

@@ -1,0 +1,4 @@
+pub mod Rules
+pub mod Reading
+pub mod Walk
+pub mod Checks

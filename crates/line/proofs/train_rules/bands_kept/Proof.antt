@@ -1,0 +1,35 @@
+use Rattle.rules.specs.Refusal.{bandsRule}
+use Rattle.rules.proofs.Loops.{within-row, rises-row}
+use borrow.Author.Needs.{needs}
+use Rattle.line.proofs.train_rules.bands_kept.Statement.{statement}
+use Rattle.line.proofs.train_rules.bands_kept.Tie as tie
+
+all-within-requires : tie.Need-all-within-requires
+all-within-requires c κs = search needs
+
+all-within-requires-2 : tie.Need-all-within-requires-2
+all-within-requires-2 c κs = search needs
+
+both-requires : tie.Need-both-requires
+both-requires c κs = search needs
+
+rises-by-requires : tie.Need-rises-by-requires
+rises-by-requires c κs = search needs
+
+both-requires-2 : tie.Need-both-requires-2
+both-requires-2 c κs = search needs
+
+returns : tie.Need-returns
+unfolding bandsRule
+returns c = simp (rises-row, within-row) cc
+
+pub bands-kept-spec : {M : Type 1} → statement M
+bands-kept-spec =
+    tie.close
+    (tie.spec
+    all-within-requires
+    all-within-requires-2
+    both-requires
+    rises-by-requires
+    both-requires-2
+    returns)

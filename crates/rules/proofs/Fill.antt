@@ -1,0 +1,79 @@
+-- A buffer that a loop fills with a function's values, one store a turn, upwards or downwards. Assumes nothing.
+use Prim.Native.Nat.{ℕ, zero, suc, _+_, _-_, _≤_, _<_}
+use mathlib.Core.Path.{_≡_, refl, sym, _∙_, ap}
+use mathlib.Core.List.{List, [], _∷_, _++_}
+use native.Mathlib.Nat.{add-sub-of-le}
+use native.Mathlib.Decide.{decLe}
+use native.Mathlib.Omega.{arith}
+use lib.ListN.{length, getD, set, drop, length-set, length-append, length-drop, List·getD-append}
+use lib.Seq.{getD-set-same, getD-set-other, getD-drop, getD-append-add, ext-getD}
+use Rattle.rules.specs.Count.{entry, row}
+use Rattle.rules.proofs.Count.{length-row, entry-row}
+
+-- s is s₀ but for the places from a up to, not including, b, where it has f's values
+pub record Filled (f : ℕ → ℕ) (a b : ℕ) (s₀ s : List ℕ) : Type 0 where
+  pub long : length s ≡ length s₀
+  pub inside : (k : ℕ) → a ≤ k → k < b → entry s k ≡ f k
+  pub under : (k : ℕ) → k < a → entry s k ≡ entry s₀ k
+  pub over : (k : ℕ) → b ≤ k → entry s k ≡ entry s₀ k
+
+pub fill-none : (f : ℕ → ℕ) (a : ℕ) (s : List ℕ) → Filled f a a s s
+fill-none f a s = record { long = refl; inside = λ k h g. absurd (omega arith); under = λ k h. refl; over = λ k h. refl }
+
+-- one place that needs no store
+pub fill-one : {f : ℕ → ℕ} {a c : ℕ} {s : List ℕ} → c ≡ suc a → entry s a ≡ f a → Filled f a c s s
+fill-one {f} {a} {c} {s} e q =
+    record {
+      long = refl;
+      inside = λ k h g. let z : k ≡ a = omega arith in rw z q;
+      under = λ k h. refl;
+      over = λ k h. refl;
+    }
+
+pub fill-up : {f : ℕ → ℕ} {a b c v : ℕ} {s₀ s : List ℕ} → Filled f a b s₀ s → a ≤ b → c ≡ suc b → b < length s₀ → v ≡ f b → Filled f a c s₀ (set s b v)
+fill-up {f} {a} {b} {c} {v} {s₀} {s} r l e h q =
+    record {
+      long = length-set s b v ∙ r .long;
+      inside = λ k m n. at k m n (decLe b k);
+      under = λ k m. getD-set-other s b k v 0 (omega arith) ∙ r .under k m;
+      over = λ k m. getD-set-other s b k v 0 (omega arith) ∙ r .over k (omega arith);
+    }
+  where
+    at : (k : ℕ) → a ≤ k → k < c → Dec (b ≤ k) → entry (set s b v) k ≡ f k
+    at k m n (yes g) =
+        let z : k ≡ b = omega arith in
+        rw z (getD-set-same s b v 0 (omega (arith, r .long)) ∙ q)
+    at k m n (no g) = getD-set-other s b k v 0 (omega arith) ∙ r .inside k m (omega arith)
+
+pub fill-down : {f : ℕ → ℕ} {a b c v : ℕ} {s₀ s : List ℕ} → Filled f c b s₀ s → a < b → c ≡ suc a → a < length s₀ → v ≡ f a → Filled f a b s₀ (set s a v)
+fill-down {f} {a} {b} {c} {v} {s₀} {s} r l e h q =
+    record {
+      long = length-set s a v ∙ r .long;
+      inside = λ k m n. at k m n (decLe k a);
+      under = λ k m. getD-set-other s a k v 0 (omega arith) ∙ r .under k (omega arith);
+      over = λ k m. getD-set-other s a k v 0 (omega arith) ∙ r .over k m;
+    }
+  where
+    at : (k : ℕ) → a ≤ k → k < b → Dec (k ≤ a) → entry (set s a v) k ≡ f k
+    at k m n (yes g) =
+        let z : k ≡ a = omega arith in
+        rw z (getD-set-same s a v 0 (omega (arith, r .long)) ∙ q)
+    at k m n (no g) = getD-set-other s a k v 0 (omega arith) ∙ r .inside k (omega arith) n
+
+module _ (f : ℕ → ℕ) (n : ℕ) (r : List ℕ) where
+  pub entry-in : (k : ℕ) → k < n → entry (row f n ++ r) k ≡ f k
+  entry-in k h = List·getD-append (row f n) r 0 k (rw length-row h) ∙ entry-row f n k h
+
+  pub entry-past : (k : ℕ) → entry (row f n ++ r) (n + k) ≡ entry r k
+  entry-past k = let g : entry (row f n ++ r) (length (row f n) + k) ≡ entry r k = getD-append-add (row f n) r k 0 in rw length-row at g
+
+-- the whole buffer, as one equation
+pub fill-done : {f : ℕ → ℕ} {n : ℕ} {s₀ s : List ℕ} → Filled f 0 n s₀ s → n ≤ length s₀ → s ≡ row f n ++ drop n s₀
+fill-done {f} {n} {s₀} {s} r h =
+    ext-getD 0 s (row f n ++ drop n s₀) (r .long ∙ simp (length-append, length-row, length-drop) (omega arith)) (λ k g. at k (decLe n k))
+  where
+    at : (k : ℕ) → Dec (n ≤ k) → entry s k ≡ entry (row f n ++ drop n s₀) k
+    at k (yes m) =
+        let z : k ≡ n + (k - n) = omega arith in
+        r .over k m ∙ ap (entry s₀) z ∙ sym (getD-drop n s₀ (k - n) 0) ∙ sym (entry-past f n (drop n s₀) (k - n)) ∙ ap (entry (row f n ++ drop n s₀)) (sym z)
+    at k (no m) = r .inside k (omega arith) (omega arith) ∙ sym (entry-in f n (drop n s₀) k (omega arith))
