@@ -10,16 +10,17 @@ use Rattle.rules.specs.Count.{_and_}
 use Rattle.rules.specs.File.{pointCount, stepLength, limitCount, blockCount, trainCount, trainsAt, announcedEnd}
 use Rattle.rules.specs.Line as rules
 use Rattle.rules.specs.Line.{lineOf}
-use Rattle.rules.specs.Refusal.{Rule, rule, refusal, whole, nothingAfter, lineSizes, trainSizes, everyTrain, limitPointsRule, limitsRule, blocksRule, fileRules}
+use Rattle.rules.specs.Refusal.{Rule, rule, refusal, whole, nothingAfter, lineSizes, trainSizes, everyTrain, limitPointsRule, limitsRule, blocksRule, fileRules, pairRules}
 use Rattle.rules.specs.Calls.{fileRefusal}
-use Rattle.rules.proofs.Count.{and-left, and-right}
+use Rattle.rules.proofs.Count.{and-left, and-right, length-row}
 use Rattle.rules.proofs.File.{length-words, trains-within}
 use Rattle.rules.proofs.Refusal.{refusal-cons, structureRules, append-refused, append-kept, append-accepted, one-accepted, file-lowest}
-use Rattle.rules.proofs.Rules.{rule-3-line}
+use Rattle.rules.proofs.Rules.{rule-3-line, rule-3-train}
 use Rattle.line.specs.declared.decoded.Line.{Line}
-use Rattle.line.specs.Values.{lineIn}
-use Rattle.line.specs.Decoded.{IsLine, sizesRule, lineRules, firstTrains}
-use Rattle.line.specs.Sized.{lineNumbers, Sized}
+use Rattle.line.specs.declared.decoded.Train.{Train}
+use Rattle.line.specs.Values.{lineIn, trainIn}
+use Rattle.line.specs.Decoded.{IsLine, sizesRule, pairSizes, lineRules, oneTrain, firstTrains}
+use Rattle.line.specs.Sized.{lineNumbers, Sized, Counted}
 
 module _ (file : List ℕ) where
   -- what comes behind rules 1 and 2, and behind 3
@@ -107,3 +108,33 @@ unfolding whole
 file-there file z =
     let all = leb-true (announcedEnd file) (length file) (file-lowest file .none-broken z 0 (omega arith)) in
     (omega (arith, trains-within file), all)
+
+-- ---- a decoded line with one train
+
+module _ (l : rules.Line) (t : rules.Train) where
+  pub pair-sizes-refused : pairSizes l t ≡ false → 3 ≡ refusal (pairRules l t)
+  pair-sizes-refused e = sym (refusal-cons 3 (pairSizes l t) (lineRules l ++ oneTrain l t) ∙ rw e)
+
+  module _ (e : pairSizes l t ≡ true) where
+    past-pair-sizes : refusal (pairRules l t) ≡ refusal (lineRules l ++ oneTrain l t)
+    past-pair-sizes = refusal-cons 3 (pairSizes l t) (lineRules l ++ oneTrain l t) ∙ rw e
+
+    pub pair-line-refused : {r : ℕ} → r ≡ refusal (lineRules l) → (r ≡ 0 → ⊥) → r ≡ refusal (pairRules l t)
+    pair-line-refused f h = f ∙ sym (past-pair-sizes ∙ append-refused (lineRules l) (oneTrain l t) (omega arith) (λ w. h (f ∙ w)))
+
+    pub pair-line-passed : {r q : ℕ} → r ≡ refusal (lineRules l) → r ≡ 0 → q ≡ refusal (oneTrain l t) → q ≡ refusal (pairRules l t)
+    pair-line-passed f w g = g ∙ sym (past-pair-sizes ∙ append-kept (lineRules l) (oneTrain l t) (omega arith) (sym f ∙ w))
+
+pub pair-sized : (l : Line) (t : Train) → pairSizes (lineIn l) (trainIn t) ≡ true → Sized l × Counted t
+pair-sized l t e =
+    let r = rule-3-line (lineIn l) 1 .0 (and-left _ _ e) in
+    let q = rule-3-train (trainIn t) .0 (and-right _ _ e) in
+    let k : 1 ≤ l .limits = rw length-row at (r .limits-least) in
+    let k′ : l .limits ≤ 64 = rw length-row at (r .limits-most) in
+    let b : 1 ≤ l .blocks = rw length-row at (r .blocks-least) in
+    let b′ : l .blocks ≤ 32 = rw length-row at (r .blocks-most) in
+    let a : t .bands ≤ 8 = rw length-row at (q .bands-most) in
+    let s : t .stops ≤ 32 = rw length-row at (q .stops-most) in (
+      record { points = r .points-least; step = r .step-least; some-limit = k; limits = k′; some-block = b; blocks = b′ },
+      record { bands = omega arith; stops = omega arith },
+    )

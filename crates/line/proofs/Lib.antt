@@ -2,3 +2,4 @@ pub mod Rules
 pub mod Reading
 pub mod Walk
 pub mod Checks
+pub mod Opening

@@ -26,9 +26,17 @@ pub record IsTrain (file : List ℕ) (at : ℕ) (t : Train) : Type 0 where
 abbrev pub sizesRule : List ℕ → Bool
 sizesRule file = lineSizes (lineOf file) (trainCount file) and everyTrain file trainSizes
 
+-- rule 3 of a line and one train
+abbrev pub pairSizes : rules.Line → rules.Train → Bool
+pairSizes l t = lineSizes l 1 and trainSizes t
+
 -- rules 4 to 6 of a line
 abbrev pub lineRules : rules.Line → List Rule
 lineRules l = rule 4 (limitPointsRule l) ∷ rule 5 (limitsRule l) ∷ rule 6 (blocksRule l) ∷ []
+
+-- rules 7 to 9 of a train
+abbrev pub oneTrain : rules.Line → rules.Train → List Rule
+oneTrain l t = rule 7 (bandsRule t) ∷ rule 8 (stopsRule l t) ∷ rule 9 (lastBlockRule l t) ∷ []
 
 -- rules 7 to 9 of the first n trains of the file
 abbrev pub firstTrains : List ℕ → ℕ → List Rule

@@ -1,3 +1,4 @@
 pub mod Values
 pub mod Sized
 pub mod Decoded
+pub mod Opened

@@ -26,7 +26,10 @@ fn sized(file: &[u8]) -> bool
     let limits = size(word_at(file, 4));
     let blocks = size(word_at(file, 6));
     let trains = size(word_at(file, train_count_at(file)));
-    both(line_sizes(points, step, limits, blocks, trains), trains_sized(file))
+    both(
+        line_sizes(points, step, limits, blocks, trains),
+        trains_sized(file),
+    )
 }
 
 pub fn file_refusal(file: &[u8]) -> u8

@@ -8,8 +8,8 @@ use crate::numbers::rises_by;
 use crate::numbers::size;
 use crate::numbers::unless_kept;
 ghost use mathlib.Core.Path.{_≡_};
-ghost use mathlib.Core.List.{[], _∷_};
-ghost use Rattle.rules.specs.Refusal.{rule, refusal, bandsRule, stopsRule, lastBlockRule};
+ghost use Rattle.rules.specs.Refusal.{refusal, bandsRule, stopsRule, lastBlockRule};
+ghost use Rattle.line.specs.Decoded.{oneTrain};
 ghost use Rattle.line.specs.Sized.{trainNumbers, Sized, Counted};
 ghost use Rattle.line.specs.Values.{lineIn, trainIn};
 
@@ -18,7 +18,10 @@ pub fn train_sizes(class: usize, length: usize, bands: usize, stops: usize) -> b
     ensures { λ r. ⌜ r ≡ trainNumbers class length bands stops ⌝ }
 {
     let counts = both(is_within(bands, 1, 8), is_within(stops, 0, 32));
-    both(is_within(class, 0, 2), both(is_within(length, 1, 1000), counts))
+    both(
+        is_within(class, 0, 2),
+        both(is_within(length, 1, 1000), counts),
+    )
 }
 
 // Rule 7.
@@ -42,7 +45,10 @@ fn stops_kept(line: Line, train: Train) -> bool
     let dwells = train.dwells;
     let n = train.stops;
     let last = size(line.points) - 1;
-    let within = both(all_within(halts, n, 0, last), all_within(dwells, n, 0, 3600));
+    let within = both(
+        all_within(halts, n, 0, last),
+        all_within(dwells, n, 0, 3600),
+    );
     both(rises_by(2, n, halts), within)
 }
 
@@ -61,8 +67,12 @@ fn last_block_kept(line: Line, train: Train) -> bool
 // The first broken rule of 7 to 9, or 0.
 pub fn train_refusal(line: Line, train: Train) -> u8
     requires { ⌜ Sized line × Counted train ⌝ }
-    ensures { λ r. ⌜ r ≡ refusal (rule 7 (bandsRule (trainIn train)) ∷ rule 8 (stopsRule (lineIn line) (trainIn train)) ∷ rule 9 (lastBlockRule (lineIn line) (trainIn train)) ∷ []) ⌝ }
+    ensures { λ r. ⌜ r ≡ refusal (oneTrain (lineIn line) (trainIn train)) ⌝ }
 {
     let last = unless_kept(9, last_block_kept(line, train), 0);
-    unless_kept(7, bands_kept(train), unless_kept(8, stops_kept(line, train), last))
+    unless_kept(
+        7,
+        bands_kept(train),
+        unless_kept(8, stops_kept(line, train), last),
+    )
 }

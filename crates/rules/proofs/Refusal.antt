@@ -309,7 +309,7 @@ module _ (file : List ℕ) where
   -- ---- an accepted file
 
   module _ (ok : fileRefusal file ≡ 0) where
-    sizes-kept : (lineSizes (lineOf file) (trainCount file) and everyTrain file trainSizes) ≡ true
+    pub sizes-kept : (lineSizes (lineOf file) (trainCount file) and everyTrain file trainSizes) ≡ true
     sizes-kept = file-lowest .none-broken ok 2 (omega arith)
 
     pub line-sizes : Rule3Line (lineOf file) (trainCount file)

@@ -42,7 +42,7 @@ returns-2 c =
     let at = c .before .before .record-at .result in
     let size = c .before .record-size .result in
     let n : at + size - at ≡ size = omega arith in
-    rw n (rw (c .before .record-size .ensures .0, c .before .before .record-at .ensures .0) ∙ sym (record-handed _ _ (sym (c .before .before .before .before .check-train .ensures) ∙ c .before .before .before .if1 .left)))
+    rw n ((rw (c .before .record-size .ensures .0, c .before .before .record-at .ensures .0)) ∙ sym (record-handed _ _ (sym (c .before .before .before .before .check-train .ensures) ∙ c .before .before .before .if1 .left)))
 
 pub train-record-spec : {M : Type 1} → statement M
 train-record-spec =

@@ -60,9 +60,12 @@ loop-less c = omega arith
 
 loop-again : tie.Need-loop-again Inv-loop μ-loop
 loop-again c =
-    let l = c .before .before .before .before .before .loop in
-    (omega arith, l .inv .1, omega (arith, record-next _ _ _ (l .inv .2)),
-    trains-more _ _ (l .inv .2) (c .before .before .before .before .before .before .before .before .before .before .pre .3) (c .before .before .before .decode-train .ensures) (l .inv .3) (c .before .before .train-refusal .ensures) (c .before .lower .ensures))
+    let l = c .before .before .before .before .before .loop in (
+      omega arith,
+      l .inv .1,
+      omega (arith, record-next _ _ _ (l .inv .2)),
+      trains-more _ _ (l .inv .2) (c .before .before .before .before .before .before .before .before .before .before .pre .3) (c .before .before .before .decode-train .ensures) (l .inv .3) (c .before .before .train-refusal .ensures) (c .before .lower .ensures),
+    )
 
 returns : tie.Need-returns Inv-loop μ-loop
 returns c =
