@@ -32,7 +32,7 @@ limit-at v (p ∷ ps) (q ∷ ks) r e (suc k) c h b u =
 
 -- ---- stops
 
-listed-there : (ss : List ℕ) (k : ℕ) → k < length ss → listed (entry ss k) ss ≡ true
+pub listed-there : (ss : List ℕ) (k : ℕ) → k < length ss → listed (entry ss k) ss ≡ true
 unfolding listed
 listed-there [] k h = absurd (omega arith)
 listed-there (s ∷ ss) zero h = rw (eq-eqb s s refl)
@@ -42,7 +42,7 @@ listed-there (s ∷ ss) (suc k) h = go (eqb (entry ss k) s) (listed-there ss k (
     go true e = refl
     go false e = e
 
-listed-only : (ss : List ℕ) (i : ℕ) → ((k : ℕ) → k < length ss → entry ss k ≡ i → ⊥) → listed i ss ≡ false
+pub listed-only : (ss : List ℕ) (i : ℕ) → ((k : ℕ) → k < length ss → entry ss k ≡ i → ⊥) → listed i ss ≡ false
 unfolding listed
 listed-only [] i h = refl
 listed-only (s ∷ ss) i h = rw (ne-eqb i s (λ e. h 0 (omega arith) (sym e))) (listed-only ss i (λ k g. h (suc k) (omega arith)))

@@ -18,4 +18,6 @@ pub mod Demand
 pub mod Headway
 pub mod Decimal
 pub mod Text
+pub mod Written
+pub mod Lengths
 pub mod Sample

@@ -1,0 +1,80 @@
+-- The run timed from point to point. Assumes nothing.
+use Prim.Native.Nat.{ℕ, suc, _+_, _^_, _≤_, _<_}
+use mathlib.Core.List.{List}
+use mathlib.Core.Logic.{⊎-elim}
+use mathlib.Core.Path.{_≡_, sym, ap, _∙_}
+use native.Mathlib.Numerals.{add-one}
+use native.Mathlib.Omega.{arith}
+use lib.ListN.{length, set}
+use Rattle.rules.specs.Admitted.{Admitted}
+use Rattle.rules.specs.Calls.{written}
+use Rattle.rules.specs.Count.{entry}
+use Rattle.rules.specs.Line.{Line, Train}
+use Rattle.rules.specs.Run.{runRow}
+use Rattle.rules.specs.Time.{root, cellTime, arrival, arrivals, runTimes}
+use Rattle.rules.proofs.Fill.{Filled, fill-none, fill-up}
+use Rattle.rules.proofs.Root.{root-least}
+use Rattle.rules.proofs.Run.{run-moves}
+use Rattle.rules.proofs.Time.{arrival-first, arrival-next, arrival-most, departure-is}
+use Rattle.run.specs.Stops.{NextStop, dwellBefore}
+use Rattle.run.proofs.Rows.{fill-written}
+use Rattle.run.proofs.Halts.{next-first, dwell-before}
+
+-- at the arrival at point i: the next stop, the time, the root of the squared speed, and the earlier arrivals in the buffer
+pub record Arrived (l : Line) (t : Train) (times₀ : List ℕ) (i next time here : ℕ) (times : List ℕ) : Type 0 where
+  pub point : i < l .points
+  pub stop : NextStop (t .stops) next i
+  pub clock : time ≡ arrival l t (runRow l t) i
+  pub speed : here ≡ root (entry (runRow l t) i)
+  pub slow : here ≤ 65535
+  pub filled : Filled (arrival l t (runRow l t)) 0 i times₀ times
+
+module _ (l : Line) (t : Train) (a : Admitted l t) where
+  pub arrived-first : {times : List ℕ} {w here : ℕ} → here ≡ root w → w ≡ entry (runRow l t) 0 → here ≤ 65535 → Arrived l t times 0 0 0 here times
+  arrived-first {times} e f s =
+      record {
+        point = omega (arith, a .rule3Line .points-least);
+        stop = next-first (t .stops);
+        clock = sym (arrival-first l t (runRow l t));
+        speed = e ∙ ap root f;
+        slow = s;
+        filled = fill-none _ 0 times;
+      }
+
+  -- the buffer once the last arrival is stored
+  pub arrived-last : {times₀ times : List ℕ} {i next time here : ℕ} → Arrived l t times₀ i next time here times → l .points ≡ suc i → l .points ≤ length times₀ → set times i time ≡ written times₀ 0 (runTimes l t)
+  unfolding arrivals
+  arrived-last r e h = fill-written (fill-up (r .filled) (omega arith) e (omega arith) (r .clock)) h
+
+  -- from point i to the next, whose squared speed is w
+  module _
+      {times₀ times : List ℕ} {i next time here w there : ℕ} (r : Arrived l t times₀ i next time here times) (h : i + 1 < l .points)
+      (f : there ≡ root w) (g : w ≡ entry (runRow l t) (i + 1)) where
+    there-is : there ≡ root (entry (runRow l t) (suc i))
+    there-is = f ∙ ap root (rw (add-one i) at g)
+
+    -- not both roots are 0
+    pub roots-move : 0 < here + there
+    roots-move =
+        ⊎-elim (λ m. omega (arith, r .speed, root-least 1 {w = entry (runRow l t) i} (omega arith)))
+        (λ m. omega (arith, there-is, root-least 1 {w = entry (runRow l t) (suc i)} (omega arith))) (run-moves l t a i (omega arith))
+
+    module _ {dwelt step cell : ℕ} (d : dwelt ≡ dwellBefore (t .stops) (t .dwells) i) (m : step ≡ l .step) (c : cell ≡ cellTime step here there) where
+      clock-next : time + dwelt + cell ≡ arrival l t (runRow l t) (suc i)
+      clock-next =
+          let e : cell ≡ cellTime (l .step) (root (entry (runRow l t) i)) (root (entry (runRow l t) (suc i))) = cc (there-is, r .speed) in
+          omega (arith, e, r .clock, dwell-before l t i (omega arith), arrival-next l t (runRow l t) i, departure-is l t (runRow l t) i)
+
+      pub clock-most : time + dwelt + cell < 2 ^ 43
+      clock-most = omega (arith, clock-next, arrival-most l t a (suc i) (omega arith))
+
+      pub arrived-next : {after : ℕ} → there ≤ 65535 → NextStop (t .stops) after (i + 1) → l .points ≤ length times₀ → Arrived l t times₀ (i + 1) after (time + dwelt + cell) there (set times i time)
+      arrived-next s n b =
+          record {
+            point = h;
+            stop = n;
+            clock = rw (add-one i) clock-next;
+            speed = f ∙ ap root g;
+            slow = s;
+            filled = fill-up (r .filled) (omega arith) (add-one i) (omega arith) (r .clock);
+          }

@@ -1,0 +1,9 @@
+pub mod Compose
+pub mod Traction
+pub mod Lowest
+pub mod Limits
+pub mod Halts
+pub mod Sweeping
+pub mod Digits
+pub mod Rows
+pub mod Arriving

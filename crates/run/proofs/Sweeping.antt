@@ -1,0 +1,112 @@
+-- The forward sweep, one point after the other. Assumes nothing.
+use Prim.Native.Nat.{ℕ, zero, suc, _+_, _-_, _≤_, _<_, min}
+use mathlib.Core.Bool.{Bool, true, false, cond}
+use mathlib.Core.Path.{_≡_, refl, sym, ap, _∙_}
+use native.Mathlib.Nat.{le-trans}
+use native.Mathlib.Omega.{arith}
+use lib.Dec.{ltb, eqb}
+use lib.ListN.{length}
+use borrow.Author.Tests.{ltb-true}
+use Rattle.rules.specs.Line.{Line, Train}
+use Rattle.rules.specs.Run.{squared, lastTop, capSpeed, listed, capOf, cap, tractionStep, forwardSweep, forward, trainCells}
+use Rattle.rules.specs.Admitted.{Admitted}
+use Rattle.rules.specs.Count.{_and_, entry, row, lowestFrom}
+use Rattle.rules.proofs.Count.{length-row, entry-row, lowest-le}
+use Rattle.rules.proofs.Step.{step-mono, step-keeps, squared-most, last-top-most}
+use Rattle.rules.proofs.Cap.{cap-top}
+use Rattle.run.specs.Stops.{NextStop, stopHere}
+use Rattle.run.proofs.Halts.{stop-is}
+use Rattle.line.specs.declared.decoded.Line as decodedLine
+use Rattle.line.specs.declared.decoded.Train as decodedTrain
+use Rattle.line.specs.Values.{lineIn, trainIn}
+use Rattle.run.specs.declared.walk.Under.{Under}
+use Rattle.run.specs.Walk.{IsNext}
+use Rattle.run.proofs.Lowest.{lowest-agree}
+use Rattle.run.proofs.Limits.{IsUnder, next-below, under-first, under-next, under-cap}
+
+-- w is the entry before point i; before point 0 it is above every cap
+pub record Before (l : Line) (t : Train) (i w : ℕ) : Type 0 where
+  pub at-start : i ≡ 0 → w ≡ 900000000
+  pub later : (j : ℕ) → i ≡ suc j → w ≡ forward l t j
+
+pub before-start : (l : Line) (t : Train) → Before l t 0 900000000
+before-start l t = record { at-start = λ e. refl; later = λ j e. absurd (omega arith) }
+
+pub before-next : (l : Line) (t : Train) (i : ℕ) {w : ℕ} → w ≡ forward l t i → Before l t (i + 1) w
+before-next l t i q =
+    record { at-start = λ e. absurd (omega arith); later = λ j e. let z : i ≡ j = omega arith in rw z at q }
+
+module _ (l : Line) (t : Train) (a : Admitted l t) where
+  -- from 900,000,000 the step reaches the last band's top
+  above-cap : cap l t 0 ≤ tractionStep l t 900000000
+  above-cap =
+      le-trans (cap-top l t 0)
+      (le-trans (step-keeps l t a (squared (lastTop t)) (omega arith)) (step-mono l t (squared-most (last-top-most l t a))))
+
+  pub forward-at : (i : ℕ) {w c s v : ℕ} → Before l t i w → c ≡ cap l t i → s ≡ tractionStep l t w → v ≡ min c s → v ≡ forward l t i
+  unfolding forward forwardSweep
+  forward-at zero b p q r = r ∙ rw (p, q, b .at-start refl) (omega (arith, above-cap))
+  forward-at (suc i) b p q r = r ∙ rw (p, q, b .later i refl)
+
+  -- the cap by the walk along the limits and the stops
+  pub cap-at :
+      (i next : ℕ) {head tail lowest : ℕ} {b : Bool} {v : ℕ} → i < l .points → IsUnder l (trainCells l t) (lastTop t) i head tail lowest → NextStop (t .stops) next i →
+      b ≡ stopHere (t .stops) (length (t .stops)) next i → v ≡ cond b 0 (squared lowest) → v ≡ cap l t i
+  unfolding cap capOf
+  cap-at i next h u p e q = q ∙ rw (e, stop-is (t .stops) (a .rule8 .apart) p, under-cap l t a u h)
+
+  -- a cap speed is at most 300
+  pub under-most : {i head tail lowest : ℕ} → IsUnder l (trainCells l t) (lastTop t) i head tail lowest → lowest ≤ 300
+  under-most u = rw (u .lowest-is) (le-trans (lowest-le _ _ _ _) (last-top-most l t a))
+
+-- ---- the walk over a decoded line and train
+
+module _ (line : decodedLine.Line) (train : decodedTrain.Train) (a : Admitted (lineIn line) (trainIn train)) where
+  abbrev l : Line
+  l = lineIn line
+
+  abbrev t : Train
+  t = trainIn train
+
+  pub counts : (1 ≤ line .limits) × (line .limits ≤ 64) × (train .stops ≤ 32) × (line .limits ≡ length (l .limitPoints)) × (train .stops ≡ length (t .stops))
+  counts =
+      let k = length-row (entry (line .speeds)) (line .limits) in
+      let p = length-row (entry (line .froms)) (line .limits) in
+      let s = length-row (entry (train .halts)) (train .stops) in
+      (omega (arith, a .rule3Line .limits-least), omega (arith, a .rule3Line .limits-most), omega (arith, a .rule3Train .stops-most), sym p, sym s)
+
+  -- the lowest limit by the array and by the list
+  by-array : (top tail n : ℕ) → tail + n ≤ line .limits → lowestFrom (entry (l .limits)) top tail n ≡ lowestFrom (entry (line .speeds)) top tail n
+  by-array top tail n h = lowest-agree _ _ top tail n (λ k p q. entry-row (entry (line .speeds)) (line .limits) k (omega arith))
+
+  pub under-ready :
+      {n top i head tail lowest : ℕ} → IsUnder l n top i head tail lowest →
+      (head < line .limits) × (tail < line .limits) × (lowest ≡ lowestFrom (entry (line .speeds)) top tail (head + 1 - tail))
+  under-ready {n} {top} {i} {head} {tail} u =
+      let c = counts in
+      let h : head < line .limits = omega (arith, u .head-in .there) in
+      let m : tail < line .limits = omega (arith, u .tail-in .there) in
+      (h, m, u .lowest-is ∙ by-array top tail (head + 1 - tail) (omega arith))
+
+  pub under-begun : (n top : ℕ) {lowest : ℕ} → lowest ≡ lowestFrom (entry (line .speeds)) top 0 1 → IsUnder l n top 0 0 0 lowest
+  under-begun n top q = under-first l t a n top _ (q ∙ sym (by-array top 0 1 (omega (arith, counts .0))))
+
+  pub under-on :
+      (n top i : ℕ) {u v : Under} → IsUnder l n top i (u .head) (u .tail) (u .lowest) →
+      IsNext (line .froms) (line .speeds) (line .limits) top n (i + 1) u v → IsUnder l n top (i + 1) (v .head) (v .tail) (v .lowest)
+  under-on n top i {u} {v} w x =
+      let c = counts in
+      let r = under-ready w in
+      let h : v .head < line .limits = rw (x .head) (next-below (line .froms) (line .limits) (u .head) (i + 1) (r .0)) in
+      let m : v .tail < line .limits = rw (x .tail) (next-below (line .froms) (line .limits) (u .tail) (i + 1 - n) (r .1)) in
+      under-next l t a (line .froms) (line .limits) n top i (c .3) (λ k g. sym (entry-row (entry (line .froms)) (line .limits) k g)) w (x .head) (x .tail)
+      (x .lowest ∙ sym (by-array top (v .tail) (v .head + 1 - v .tail) (omega arith)))
+
+  -- the stop ahead by the array and by the list
+  pub stop-by-list : (next i : ℕ) → stopHere (train .halts) (train .stops) next i ≡ stopHere (t .stops) (length (t .stops)) next i
+  unfolding stopHere _and_
+  stop-by-list next i = rw length-row (go (ltb next (train .stops)) refl)
+    where
+      go : (b : Bool) → ltb next (train .stops) ≡ b → (b and eqb (entry (train .halts) next) i) ≡ (b and eqb (entry (t .stops) next) i)
+      go true e = ap (λ x. eqb x i) (sym (entry-row (entry (train .halts)) (train .stops) next (ltb-true _ _ e)))
+      go false e = refl

@@ -1,0 +1,94 @@
+-- Laws of a train's changes of squared speed, of its decoded bands and of the traction step by them. Assumes nothing.
+use Prim.Native.Nat.{ℕ, zero, suc, _+_, _-_, _≤_, _<_, min, max}
+use mathlib.Core.List.{List, [], _∷_}
+use mathlib.Core.Path.{_≡_, refl, ap, _∙_}
+use native.Mathlib.Nat.{le-antisymm, mul-le-mul, mul-le-mul-right}
+use native.Mathlib.Numerals.{add-one}
+use native.Mathlib.Omega.{arith}
+use lib.ListN.{length}
+use Rattle.rules.specs.Count.{entry, row, greatestBelow}
+use Rattle.rules.specs.Line.{Line, Train, practiceRate}
+use Rattle.rules.specs.Run.{squared, change, brakingLoss, lastOr, tractionStep}
+use Rattle.rules.specs.Admitted.{Admitted}
+use Rattle.rules.specs.Meaning.{bandPart}
+use Rattle.rules.proofs.Count.{at-most-greatest, greatest-at-most, length-row, entry-row}
+use Rattle.rules.proofs.Step.{squared-most, step-is}
+use Rattle.line.specs.Values.{trainIn}
+use Rattle.line.specs.declared.decoded.Train as decoded
+use Rattle.run.specs.declared.bands.Bands.{Bands}
+use Rattle.run.specs.Traction.{IsBands, BandBounds}
+
+-- ---- changes of squared speed
+
+pub change-most : {rate L : ℕ} → rate ≤ 200 → L ≤ 100 → change rate L ≤ 51840000
+unfolding change
+change-most h k = mul-le-mul (mul-le-mul-right 2592 h) k
+
+pub practice-most : (class : ℕ) → practiceRate class ≤ 60
+practice-most zero = omega arith
+practice-most (suc zero) = omega arith
+practice-most (suc (suc zero)) = omega arith
+practice-most (suc (suc (suc n))) = omega arith
+
+pub loss-most : (l : Line) (t : Train) → Admitted l t → brakingLoss l t ≤ 15552000
+unfolding brakingLoss change
+loss-most l t a = mul-le-mul (mul-le-mul-right 2592 (practice-most (t .class))) (a .rule3Line .step-most)
+
+-- ---- the last band
+
+last-at : (v : ℕ) (vs : List ℕ) → 1 ≤ length vs → lastOr v vs ≡ entry vs (length vs - 1)
+unfolding lastOr
+last-at v [] h = absurd (omega arith)
+last-at v (u ∷ []) h = refl
+last-at v (u ∷ w ∷ vs) h =
+    let z : length (u ∷ w ∷ vs) - 1 ≡ suc (length (w ∷ vs) - 1) = omega arith in
+    rw z (last-at u (w ∷ vs) (omega arith))
+
+pub last-of-row : (f : ℕ → ℕ) (n : ℕ) → 1 ≤ n → lastOr 0 (row f n) ≡ f (n - 1)
+last-of-row f n h =
+    last-at 0 (row f n) (rw length-row h) ∙ ap (λ (k : ℕ). entry (row f n) (k - 1)) (length-row f n) ∙ entry-row f n (n - 1) (omega arith)
+
+-- ---- the bands in use of a decoded train
+
+module _ (l : Line) (t : decoded.Train) (a : Admitted l (trainIn t)) where
+  pub count-least : 1 ≤ t .bands
+  count-least = omega (arith, length-row (entry (t .tops)) (t .bands))
+
+  pub count-most : t .bands ≤ 8
+  count-most = omega (arith, length-row (entry (t .tops)) (t .bands))
+
+  pub rate-most : (k : ℕ) → k < t .bands → entry (t .rates) k ≤ 200
+  rate-most k h = rw entry-row at (a .rule7 .rate-most k (rw length-row h))
+
+  pub top-most : (k : ℕ) → k < t .bands → entry (t .tops) k ≤ 300
+  top-most k h = rw entry-row at (a .rule7 .top-most k (rw length-row h))
+
+-- ---- the traction step
+
+pub greatest-none : (f : ℕ → ℕ) → greatestBelow 0 f ≡ 0
+unfolding greatestBelow
+greatest-none f = refl
+
+pub greatest-more : (f : ℕ → ℕ) (n : ℕ) → greatestBelow (n + 1) f ≡ max (greatestBelow n f) (f n)
+unfolding greatestBelow
+greatest-more f n = rw add-one
+
+module _ (l : Line) (t : Train) (a : Admitted l t) (b : Bands) (h : IsBands l t b) where
+  pub bands-bounded : BandBounds (b .count) (b .gains) (b .mosts)
+  bands-bounded =
+      record {
+        count-most = omega arith;
+        gain-most = λ k m. rw (h .gain k m) (change-most (a .rule7 .rate-most k (omega arith)) (a .rule3Line .step-most));
+        most-most = λ k m. rw (h .most k m) (squared-most (a .rule7 .top-most k (omega arith)));
+      }
+
+  part-is : (w k : ℕ) → k < b .count → min (w + entry (b .gains) k) (entry (b .mosts) k) ≡ bandPart l t w k
+  unfolding change squared
+  part-is w k m = rw (h .gain k m, h .most k m)
+
+  pub traction-is : (w : ℕ) → greatestBelow (b .count) (λ k. min (w + entry (b .gains) k) (entry (b .mosts) k)) ≡ tractionStep l t w
+  traction-is w =
+      let part : ℕ → ℕ = λ k. min (w + entry (b .gains) k) (entry (b .mosts) k) in
+      let (k, m, e) = step-is l t a w .attained in
+      le-antisymm (greatest-at-most (b .count) part (tractionStep l t w) (λ k m. omega (arith, part-is w k m, step-is l t a w .each k (omega arith))))
+      (omega (arith, part-is w k (omega arith), at-most-greatest (b .count) part k (omega arith)))

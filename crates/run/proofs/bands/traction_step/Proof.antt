@@ -1,0 +1,74 @@
+use Prim.Native.Nat.{_+_, _-_, _≤_, min}
+use mathlib.Core.Path.{_≡_, sym}
+use native.Mathlib.Omega.{arith}
+use Rattle.rules.specs.Count.{entry, greatestBelow}
+use Rattle.run.proofs.Traction.{greatest-none, greatest-more}
+use borrow.Author.Needs.{needs}
+use Rattle.run.proofs.bands.traction_step.Statement.{statement}
+use Rattle.run.proofs.bands.traction_step.Tie as tie
+
+abbrev Inv-loop : tie.InvT-loop
+Inv-loop count gains mosts w best₀ k₀ best k = (k ≤ count) × (best ≡ greatestBelow k (λ k. min (w .0 + entry gains k) (entry mosts k)))
+
+abbrev μ-loop : tie.MeasureT-loop
+μ-loop count gains mosts w best₀ k₀ best k = count - k
+
+loop-holds : tie.Need-loop-holds Inv-loop μ-loop
+loop-holds c = (search needs, sym (greatest-none _))
+
+mul-lesser : tie.Need-mul-lesser Inv-loop μ-loop
+mul-lesser c = search needs
+
+element-copy-out-lesser : tie.Need-element-copy-out-lesser Inv-loop μ-loop
+element-copy-out-lesser c = search needs
+
+add-lesser : tie.Need-add-lesser Inv-loop μ-loop
+add-lesser c = omega (arith, c .before .before .before .before .pre .0 .gain-most (c .before .before .before .loop .k) (omega arith))
+
+mul-lesser-2 : tie.Need-mul-lesser-2 Inv-loop μ-loop
+mul-lesser-2 c = search needs
+
+element-copy-out-lesser-2 : tie.Need-element-copy-out-lesser-2 Inv-loop μ-loop
+element-copy-out-lesser-2 c = search needs
+
+lesser-requires : tie.Need-lesser-requires Inv-loop μ-loop
+lesser-requires c κs = search needs
+
+greater-requires : tie.Need-greater-requires Inv-loop μ-loop
+greater-requires c κs = search needs
+
+add-k : tie.Need-add-k Inv-loop μ-loop
+add-k c = search needs
+
+loop-less : tie.Need-loop-less Inv-loop μ-loop
+loop-less c = search needs
+
+loop-again : tie.Need-loop-again Inv-loop μ-loop
+loop-again c =
+    let a = c .before .before .before .before .before .before .before .args in
+    let o = c .before .before .before .before .before .before .loop in
+    (search needs, omega (arith, greatest-more (λ j. min (a .w .0 + entry (a .gains .now) j) (entry (a .mosts .now) j)) (o .k)))
+
+returns : tie.Need-returns Inv-loop μ-loop
+returns c =
+    let z : c .before .loop .k ≡ c .before .before .args .count = omega arith in
+    rw (← z) (c .before .loop .inv .1)
+
+pub traction-step-spec : {M : Type 1} → statement M
+traction-step-spec =
+    tie.close
+    (tie.spec
+    Inv-loop
+    μ-loop
+    loop-holds
+    mul-lesser
+    element-copy-out-lesser
+    add-lesser
+    mul-lesser-2
+    element-copy-out-lesser-2
+    lesser-requires
+    greater-requires
+    add-k
+    loop-less
+    loop-again
+    returns)

@@ -1,0 +1,136 @@
+use Prim.Native.Nat.{_+_}
+use Rattle.run.specs.Stops.{stopHere}
+use Rattle.rules.specs.Run.{cap}
+use mathlib.Core.Bool.{cond}
+use Rattle.rules.proofs.Cap.{cap-most}
+use native.Mathlib.Numerals.{add-one}
+use Prim.Native.Nat.{_<_}
+use lib.ListN.{length, length-set}
+use Rattle.run.proofs.Sweeping.{counts}
+use Rattle.rules.specs.Run.{trainCells, lastTop}
+use Rattle.run.proofs.Traction.{count-least, count-most, bands-bounded, traction-is}
+use Rattle.run.proofs.Sweeping.{Before, before-start, before-next, forward-at, cap-at, under-most, counts, under-ready, under-begun, under-on, stop-by-list}
+use Rattle.run.proofs.Limits.{IsUnder, under-first, under-next}
+use Rattle.run.proofs.Halts.{next-first, next-after}
+use Rattle.run.specs.Stops.{NextStop}
+use Rattle.line.specs.Values.{lineIn, trainIn}
+use Rattle.rules.proofs.Count.{length-row, entry-row}
+use Rattle.rules.proofs.Fill.{Filled, fill-none, fill-up, fill-done}
+use Rattle.rules.specs.Count.{entry, row}
+use Rattle.rules.specs.Run.{forward}
+use mathlib.Core.Path.{_≡_, refl, sym, ap, _∙_}
+use Prim.Native.Nat.{_≤_, _-_}
+use native.Mathlib.Omega.{arith}
+use borrow.Author.Needs.{needs}
+use Rattle.run.proofs.forward.write_forward.Statement.{statement}
+use Rattle.run.proofs.forward.write_forward.Tie as tie
+
+abbrev Inv-loop : tie.InvT-loop
+Inv-loop line train speeds₀ points froms limits halts n top bands gains mosts lowest under₀ next₀ w₀ i₀ speeds under next w i =
+    (i ≤ points) × IsUnder (lineIn line) (trainCells (lineIn line) (trainIn train)) (lastTop (trainIn train)) i (under .head) (under .tail) (under .lowest)
+    × NextStop (trainIn train .stops) next i × Before (lineIn line) (trainIn train) i (w .0) × (w .0 ≤ 900000000) × Filled (forward (lineIn line) (trainIn train)) 0 i speeds₀ speeds
+
+abbrev μ-loop : tie.MeasureT-loop
+μ-loop line train speeds₀ points froms limits halts n top bands gains mosts lowest under₀ next₀ w₀ i₀ speeds under next w i = points - i
+
+size-requires : tie.Need-size-requires Inv-loop μ-loop
+size-requires c κs = search needs
+
+train-cells-requires : tie.Need-train-cells-requires Inv-loop μ-loop
+train-cells-requires c κs = search needs
+
+last-top-requires : tie.Need-last-top-requires Inv-loop μ-loop
+last-top-requires c κs = let a = c .before .before .before .before .before .before .pre .0 in (count-least _ (c .before .before .before .before .before .before .args .train) a, omega (arith, count-most _ (c .before .before .before .before .before .before .args .train) a))
+
+bands-of-requires : tie.Need-bands-of-requires Inv-loop μ-loop
+bands-of-requires c κs = search needs
+
+lowest-limit-requires : tie.Need-lowest-limit-requires Inv-loop μ-loop
+lowest-limit-requires c κs = search needs
+
+loop-holds : tie.Need-loop-holds Inv-loop μ-loop
+loop-holds c =
+    let a = c .before .before .before .before .before .before .before .before .before .before .before .before .args in
+    let p = c .before .before .before .before .before .before .before .before .before .before .before .before .pre .0 in
+    (search needs, under-begun (a .line) (a .train) p _ _ (rw (c .before .before .before .before .before .last-top .ensures) at (c .lowest-limit .ensures)), next-first _, before-start _ _, omega arith, fill-none _ _ _)
+
+stop-here-requires : tie.Need-stop-here-requires Inv-loop μ-loop
+stop-here-requires c κs = omega (arith, counts (c .before .before .before .before .before .before .before .before .before .before .before .before .before .before .before .args .line) (c .before .before .before .before .before .before .before .before .before .before .before .before .before .before .before .args .train) (c .before .before .before .before .before .before .before .before .before .before .before .before .before .before .before .pre .0))
+
+cap-of-requires : tie.Need-cap-of-requires Inv-loop μ-loop
+cap-of-requires c κs = under-most _ _ (c .before .before .before .before .before .before .before .before .before .before .before .before .before .before .before .before .pre .0) (c .before .before .before .loop .inv .1)
+
+traction-step-requires : tie.Need-traction-step-requires Inv-loop μ-loop
+traction-step-requires c κs = (bands-bounded _ _ (c .before .before .before .before .before .before .before .before .before .before .before .before .before .before .before .before .before .before .before .pre .0) _ (c .before .before .before .before .before .before .before .before .before .before .before .bands-of .ensures), c .before .before .before .before .before .before .loop .inv .4)
+
+lesser-requires : tie.Need-lesser-requires Inv-loop μ-loop
+lesser-requires c κs = search needs
+
+mul-speeds : tie.Need-mul-speeds Inv-loop μ-loop
+mul-speeds c = omega (arith, c .before .before .before .before .before .before .before .loop-test .taken, c .before .before .before .before .before .before .before .before .before .before .before .before .before .before .before .before .before .before .before .size .ensures .1)
+
+slice-write-speeds : tie.Need-slice-write-speeds Inv-loop μ-loop
+slice-write-speeds c = omega (arith, c .before .before .before .before .before .before .before .before .loop .inv .5 .long, c .before .before .before .before .before .before .before .loop-test .taken, c .before .before .before .before .before .before .before .before .before .before .before .before .before .before .before .before .before .before .before .before .before .pre .1, c .before .before .before .before .before .before .before .before .before .before .before .before .before .before .before .before .before .before .before .size .ensures .0)
+
+after-point-requires : tie.Need-after-point-requires Inv-loop μ-loop
+after-point-requires c κs = omega (arith, counts (c .before .before .before .before .before .before .before .before .before .before .before .before .before .before .before .before .before .before .before .before .before .args .line) (c .before .before .before .before .before .before .before .before .before .before .before .before .before .before .before .before .before .before .before .before .before .args .train) (c .before .before .before .before .before .before .before .before .before .before .before .before .before .before .before .before .before .before .before .before .before .pre .0), c .before .before .before .before .before .before .before .before .loop .inv .2 .there)
+
+add-i : tie.Need-add-i Inv-loop μ-loop
+add-i c = omega (arith, c .before .before .before .before .before .before .before .before .loop-test .taken, c .before .before .before .before .before .before .before .before .before .before .before .before .before .before .before .before .before .before .before .before .size .ensures .1)
+
+under-at-requires : tie.Need-under-at-requires Inv-loop μ-loop
+under-at-requires c κs =
+    let r = under-ready (c .before .before .before .before .before .before .before .before .before .before .before .before .before .before .before .before .before .before .before .before .before .before .before .before .args .line) (c .before .before .before .before .before .before .before .before .before .before .before .before .before .before .before .before .before .before .before .before .before .before .before .before .args .train) (c .before .before .before .before .before .before .before .before .before .before .before .before .before .before .before .before .before .before .before .before .before .before .before .before .pre .0) (c .before .before .before .before .before .before .before .before .before .before .before .loop .inv .1) in
+    let n = counts (c .before .before .before .before .before .before .before .before .before .before .before .before .before .before .before .before .before .before .before .before .before .before .before .before .args .line) (c .before .before .before .before .before .before .before .before .before .before .before .before .before .before .before .before .before .before .before .before .before .before .before .before .args .train) (c .before .before .before .before .before .before .before .before .before .before .before .before .before .before .before .before .before .before .before .before .before .before .before .before .pre .0) in
+    ((r .0, r .1, n .1), rw (c .before .before .before .before .before .before .before .before .before .before .before .before .before .before .before .before .before .last-top .ensures) (r .2))
+
+loop-less : tie.Need-loop-less Inv-loop μ-loop
+loop-less c = omega arith
+
+loop-again : tie.Need-loop-again Inv-loop μ-loop
+loop-again c =
+    let a = c .before .before .before .before .before .before .before .before .before .before .before .before .before .before .before .before .before .before .before .before .before .before .before .before .before .args in
+    let p = (c .before .before .before .before .before .before .before .before .before .before .before .before .before .before .before .before .before .before .before .before .before .before .before .before .before .pre .0) in
+    let o = c .before .before .before .before .before .before .before .before .before .before .before .before .loop in
+    let stopped = c .before .before .before .before .before .before .before .before .before .stop-here .ensures ∙ stop-by-list (a .line) (a .train) p (o .next) (o .i) in
+    let here : c .before .before .before .before .before .before .before .before .cap-of .result .0 ≡ cap (lineIn (a .line)) (trainIn (a .train)) (o .i) = cap-at _ _ p (o .i) (o .next) (omega (arith, c .before .before .before .before .before .before .before .before .before .before .before .loop-test .taken, c .before .before .before .before .before .before .before .before .before .before .before .before .before .before .before .before .before .before .before .before .before .before .before .size .ensures .0)) (o .inv .1) (o .inv .2) stopped (c .before .before .before .before .before .before .before .before .cap-of .ensures) in
+    let v = forward-at _ _ p (o .i) (o .inv .3) here (c .before .before .before .before .before .traction-step .ensures ∙ traction-is _ _ p _ (c .before .before .before .before .before .before .before .before .before .before .before .before .before .before .before .before .before .bands-of .ensures) _) (c .before .before .before .before .lesser .ensures) in
+    let after = c .before .before .before .after-point .ensures ∙ ap (λ x. cond x (o .next + 1) (o .next)) stopped in
+    (omega (arith, c .before .before .before .before .before .before .before .before .before .before .before .loop-test .taken),
+    under-on (a .line) (a .train) p _ _ (o .i) (o .inv .1) (rw (c .before .before .before .before .before .before .before .before .before .before .before .before .before .before .before .before .before .before .last-top .ensures, c .before .before .before .before .before .before .before .before .before .before .before .before .before .before .before .before .before .before .before .train-cells .ensures) at (c .under-at .ensures)),
+    rw after (next-after _ (p .rule8 .apart) (o .inv .2)), before-next _ _ (o .i) v, omega (arith, cap-most _ _ p (o .i), c .before .before .before .before .lesser .ensures),
+    fill-up (o .inv .5) (omega arith) (add-one _) (omega (arith, c .before .before .before .before .before .before .before .before .before .before .before .loop-test .taken, c .before .before .before .before .before .before .before .before .before .before .before .before .before .before .before .before .before .before .before .before .before .before .before .before .before .pre .1, c .before .before .before .before .before .before .before .before .before .before .before .before .before .before .before .before .before .before .before .before .before .before .before .size .ensures .0)) v)
+
+same-length : tie.Need-same-length Inv-loop μ-loop
+same-length c = c .before .loop .inv .5 .long
+
+returns : tie.Need-returns Inv-loop μ-loop
+returns c =
+    let e : c .before .loop .i ≡ c .before .before .before .before .before .before .before .before .before .before .before .before .before .before .args .line .points = omega (arith, c .loop-test .left, c .before .before .before .before .before .before .before .before .before .before .before .before .size .ensures .0) in
+    fill-done (rw e at (c .before .loop .inv .5)) (c .before .before .before .before .before .before .before .before .before .before .before .before .before .before .pre .1)
+
+pub write-forward-spec : {M : Type 1} → statement M
+write-forward-spec =
+    tie.close
+    (tie.spec
+    Inv-loop
+    μ-loop
+    size-requires
+    train-cells-requires
+    last-top-requires
+    bands-of-requires
+    lowest-limit-requires
+    loop-holds
+    stop-here-requires
+    cap-of-requires
+    traction-step-requires
+    lesser-requires
+    mul-speeds
+    slice-write-speeds
+    after-point-requires
+    add-i
+    under-at-requires
+    loop-less
+    loop-again
+    same-length
+    returns)

@@ -1,0 +1,69 @@
+use mathlib.Core.Path.{_≡_, _∙_}
+use Prim.Native.Nat.{_≤_, _-_, _+_}
+use native.Mathlib.Omega.{arith}
+use Rattle.run.proofs.Lowest.{lowest-none, lowest-down, lowest-all}
+use Rattle.rules.specs.Count.{entry, lowestFrom}
+use borrow.Author.Needs.{needs}
+use Rattle.run.proofs.walk.lowest_limit.Statement.{statement}
+use Rattle.run.proofs.walk.lowest_limit.Tie as tie
+
+abbrev Inv-loop : tie.InvT-loop
+Inv-loop limits top tail head lowest₀ left₀ lowest left = (left ≤ head + 1 - tail) × (lowest ≡ lowestFrom (entry limits) top (tail + left) (head + 1 - tail - left))
+
+abbrev μ-loop : tie.MeasureT-loop
+μ-loop limits top tail head lowest₀ left₀ lowest left = left
+
+add-less : tie.Need-add-less Inv-loop μ-loop
+add-less c = search needs
+
+less-requires : tie.Need-less-requires Inv-loop μ-loop
+less-requires c κs = search needs
+
+loop-holds : tie.Need-loop-holds Inv-loop μ-loop
+loop-holds c = (omega (arith, c .less .ensures), lowest-none _ _ _ _ (c .less .ensures))
+
+sub-left : tie.Need-sub-left Inv-loop μ-loop
+sub-left c = search needs
+
+add-wide : tie.Need-add-wide Inv-loop μ-loop
+add-wide c = search needs
+
+mul-wide : tie.Need-mul-wide Inv-loop μ-loop
+mul-wide c = search needs
+
+element-copy-out-wide : tie.Need-element-copy-out-wide Inv-loop μ-loop
+element-copy-out-wide c = search needs
+
+wide-requires : tie.Need-wide-requires Inv-loop μ-loop
+wide-requires c κs = search needs
+
+lesser-requires : tie.Need-lesser-requires Inv-loop μ-loop
+lesser-requires c κs = search needs
+
+loop-less : tie.Need-loop-less Inv-loop μ-loop
+loop-less c = search needs
+
+loop-again : tie.Need-loop-again Inv-loop μ-loop
+loop-again c = (omega arith, lowest-down _ _ _ _ _ (omega arith) (omega arith) (c .before .before .before .before .loop .inv .1) (c .before .wide .ensures) (c .lesser .ensures))
+
+returns : tie.Need-returns Inv-loop μ-loop
+returns c = lowest-all _ _ _ _ (omega arith) (c .before .loop .inv .1)
+
+pub lowest-limit-spec : {M : Type 1} → statement M
+lowest-limit-spec =
+    tie.close
+    (tie.spec
+    Inv-loop
+    μ-loop
+    add-less
+    less-requires
+    loop-holds
+    sub-left
+    add-wide
+    mul-wide
+    element-copy-out-wide
+    wide-requires
+    lesser-requires
+    loop-less
+    loop-again
+    returns)

@@ -1,0 +1,21 @@
+-- The bands of a train as a run uses them: of each the gain over one step and the square of 100 times its top.
+use Prim.Native.Nat.{ℕ, _≤_, _<_}
+use mathlib.Core.List.{List}
+use mathlib.Core.Path.{_≡_}
+use lib.ListN.{length}
+use Rattle.rules.specs.Count.{entry}
+use Rattle.rules.specs.Line.{Line, Train}
+use Rattle.rules.specs.Run.{squared, change}
+use Rattle.run.specs.declared.bands.Bands.{Bands}
+
+-- b holds the bands of t for the step of l
+pub record IsBands (l : Line) (t : Train) (b : Bands) : Type 0 where
+  pub count : b .count ≡ length (t .tops)
+  pub gain : (k : ℕ) → k < b .count → entry (b .gains) k ≡ change (entry (t .rates) k) (l .step)
+  pub most : (k : ℕ) → k < b .count → entry (b .mosts) k ≡ squared (entry (t .tops) k)
+
+-- bounds that keep a traction step within 32 bits
+pub record BandBounds (count : ℕ) (gains mosts : List ℕ) : Type 0 where
+  pub count-most : count ≤ 8
+  pub gain-most : (k : ℕ) → k < count → entry gains k ≤ 51840000
+  pub most-most : (k : ℕ) → k < count → entry mosts k ≤ 900000000

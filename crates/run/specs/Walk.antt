@@ -1,0 +1,17 @@
+-- One step of the walk along the limits.
+use Prim.Native.Nat.{ℕ, _+_, _-_}
+use mathlib.Core.Bool.{cond}
+use mathlib.Core.List.{List}
+use mathlib.Core.Path.{_≡_}
+use lib.Dec.{leb, ltb}
+use Rattle.rules.specs.Count.{_and_, entry, lowestFrom}
+use Rattle.run.specs.declared.walk.Under.{Under}
+
+-- the next limit where it has begun at cell c, else the same
+unfoldable pub nextBegun : List ℕ → ℕ → ℕ → ℕ → ℕ
+nextBegun froms count at c = cond (ltb (at + 1) count and leb (entry froms (at + 1)) c) (at + 1) at
+
+pub record IsNext (froms limits : List ℕ) (count top n i : ℕ) (before after : Under) : Type 0 where
+  pub head : after .head ≡ nextBegun froms count (before .head) i
+  pub tail : after .tail ≡ nextBegun froms count (before .tail) (i - n)
+  pub lowest : after .lowest ≡ lowestFrom (entry limits) top (after .tail) (after .head + 1 - after .tail)

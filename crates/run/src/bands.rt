@@ -1,0 +1,63 @@
+// The bands of a train, decoded once for a run, and the traction step by them.
+use crate::numbers::change_over;
+use crate::numbers::greater;
+use crate::numbers::lesser;
+use crate::numbers::squared_of;
+use crate::numbers::wide;
+use crate::speed::SquaredSpeed;
+use line::Line;
+use line::Train;
+ghost use mathlib.Core.Path.{_≡_};
+ghost use Prim.Native.Nat.{_+_, _≤_, min};
+ghost use Rattle.rules.specs.Admitted.{Admitted};
+ghost use Rattle.rules.specs.Count.{entry, greatestBelow};
+ghost use Rattle.line.specs.Values.{lineIn, trainIn};
+ghost use Rattle.run.specs.Traction.{IsBands, BandBounds};
+
+// Of each band the squared speed gained over one step, and the square of 100 times its top.
+pub struct Bands {
+    pub count: usize,
+    pub gains: [u32; 8],
+    pub mosts: [u32; 8],
+}
+
+pub fn bands_of(line: Line, train: Train) -> Bands
+    requires { ⌜ Admitted (lineIn line) (trainIn train) ⌝ }
+    ensures { λ r. ⌜ IsBands (lineIn line) (trainIn train) r ⌝ }
+{
+    let step = wide(line.step);
+    let count = train.bands;
+    let mut gains = [0u32; 8];
+    let mut mosts = [0u32; 8];
+    let mut k = 0;
+    while k < count {
+        gains[k] = change_over(wide(train.rates[k]), step);
+        let most = squared_of(wide(train.tops[k]));
+        mosts[k] = most.0;
+        k += 1;
+    }
+    Bands {
+        count,
+        gains,
+        mosts,
+    }
+}
+
+// The traction step: the greatest of the bands' parts, each the lesser of w with the gain and the most.
+pub fn traction_step(
+    count: usize,
+    gains: &[u32; 8],
+    mosts: &[u32; 8],
+    w: SquaredSpeed,
+) -> SquaredSpeed
+    requires { ⌜ BandBounds count (now gains) (now mosts) × (w .0 ≤ 900000000) ⌝ }
+    ensures { λ r. ⌜ r .0 ≡ greatestBelow count (λ k. min (w .0 + entry (now (gains .entry)) k) (entry (now (mosts .entry)) k)) ⌝ }
+{
+    let mut best: u32 = 0;
+    let mut k = 0;
+    while k < count {
+        best = greater(best, lesser(w.0 + gains[k], mosts[k]));
+        k += 1;
+    }
+    SquaredSpeed(best)
+}

@@ -1,0 +1,71 @@
+// The forward sweep: each squared speed at most its cap and the traction step from the one before, in one pass with no row of caps.
+use crate::bands::bands_of;
+use crate::bands::traction_step;
+use crate::numbers::lesser;
+use crate::numbers::size;
+use crate::numbers::squared_of;
+use crate::speed::SquaredSpeed;
+use crate::stops::after_point;
+use crate::stops::stop_here;
+use crate::sweep::last_top;
+use crate::sweep::train_cells;
+use crate::walk::Under;
+use crate::walk::lowest_limit;
+use crate::walk::under_at;
+use line::Line;
+use line::Train;
+ghost use mathlib.Core.Bool.{cond};
+ghost use mathlib.Core.List.{_++_};
+ghost use mathlib.Core.Path.{_≡_};
+ghost use Prim.Native.Nat.{_≤_};
+ghost use lib.ListN.{length, drop};
+ghost use Rattle.rules.specs.Admitted.{Admitted};
+ghost use Rattle.rules.specs.Count.{row};
+ghost use Rattle.rules.specs.Run.{squared, forward};
+ghost use Rattle.line.specs.Values.{lineIn, trainIn};
+
+// The cap of a speed in km/h: 0 at a stop.
+fn cap_of(stopped: bool, v: u32) -> SquaredSpeed
+    requires { ⌜ v ≤ 300 ⌝ }
+    ensures { λ r. ⌜ r .0 ≡ cond stopped 0 (squared v) ⌝ }
+{
+    if stopped {
+        return SquaredSpeed(0);
+    }
+    squared_of(v)
+}
+
+pub fn write_forward(line: Line, train: Train, speeds: &mut [u32])
+    requires { ⌜ Admitted (lineIn line) (trainIn train) ⌝ }
+    requires { ⌜ line .points ≤ length (now speeds) ⌝ }
+    ensures { λ _. ⌜ now (speeds .exit) ≡ row (forward (lineIn line) (trainIn train)) (line .points) ++ drop (line .points) (now (speeds .entry)) ⌝ }
+{
+    let points = size(line.points);
+    let froms = line.froms;
+    let limits = line.speeds;
+    let halts = train.halts;
+    let n = train_cells(line, train);
+    let top = last_top(train);
+    let bands = bands_of(line, train);
+    let gains = bands.gains;
+    let mosts = bands.mosts;
+    let lowest = lowest_limit(&limits, top, 0, 0);
+    let mut under = Under {
+        head: 0,
+        tail: 0,
+        lowest,
+    };
+    let mut next = 0;
+    let mut w = SquaredSpeed(900000000);
+    let mut i = 0;
+    while i < points {
+        let stopped = stop_here(&halts, train.stops, next, i);
+        let cap = cap_of(stopped, under.lowest);
+        let step = traction_step(bands.count, &gains, &mosts, w);
+        w = SquaredSpeed(lesser(cap.0, step.0));
+        speeds[i] = w.0;
+        next = after_point(next, stopped);
+        i += 1;
+        under = under_at(&froms, &limits, line.limits, top, n, i, under);
+    }
+}

@@ -1,0 +1,23 @@
+// The root: the only step from a squared speed to a speed.
+use crate::speed::Speed;
+use crate::speed::SquaredSpeed;
+ghost use mathlib.Core.Path.{_≡_};
+ghost use Prim.Native.Nat.{_≤_};
+ghost use Rattle.rules.specs.Time.{root as rootOf};
+
+// Digit by digit: each trial bit stays where the square keeps within w. The count of leading zeros gives the first.
+pub fn root(w: SquaredSpeed) -> Speed
+    ensures { λ r. ⌜ (r .0 ≡ rootOf (w .0)) × (r .0 ≤ 65535) ⌝ }
+{
+    let square = w.0;
+    let mut r: u32 = 0;
+    let mut bits = (33 - u32::leading_zeros(square)) / 2;
+    while 0 < bits {
+        bits -= 1;
+        let trial = r + (1u32 << bits);
+        if trial * trial <= square {
+            r = trial;
+        }
+    }
+    Speed(r)
+}
