@@ -5,6 +5,7 @@ pub mod File
 pub mod Rules
 pub mod Refusal
 pub mod Calls
+pub mod Pairs
 pub mod Cap
 pub mod Step
 pub mod Sweep

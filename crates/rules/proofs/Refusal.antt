@@ -280,7 +280,7 @@ module _ (file : List ℕ) where
   unfolding trainRefusal runRefusal
   run-refused k speeds times h = append-refused (trainRules file k) (rule 11 (buffersLong (lineOf file) speeds times) ∷ []) (train-rising k) h
 
-  run-by-buffers : (k speeds times : ℕ) → trainRefusal file k ≡ 0 → runRefusal file k speeds times ≡ cond (buffersLong (lineOf file) speeds times) 0 11
+  pub run-by-buffers : (k speeds times : ℕ) → trainRefusal file k ≡ 0 → runRefusal file k speeds times ≡ cond (buffersLong (lineOf file) speeds times) 0 11
   unfolding trainRefusal runRefusal
   run-by-buffers k speeds times z =
       append-kept (trainRules file k) (rule 11 (buffersLong (lineOf file) speeds times) ∷ []) (train-rising k) z

@@ -7,3 +7,4 @@ pub mod Sweeping
 pub mod Digits
 pub mod Rows
 pub mod Arriving
+pub mod Answers

@@ -8,3 +8,71 @@ mod stops;
 mod sweep;
 mod times;
 mod walk;
+
+use forward::write_forward;
+use line::Line;
+use line::Train;
+use numbers::size;
+use sweep::braking_loss;
+use sweep::write_backward;
+use times::write_times;
+ghost use mathlib.Core.Path.{_≡_};
+ghost use Prim.Native.Nat.{_≤_};
+ghost use lib.ListN.{length, take};
+ghost use Rattle.rules.specs.Admitted.{Admitted};
+ghost use Rattle.rules.specs.Calls.{written, runRefusal, speedsAfter, timesAfter};
+ghost use Rattle.rules.specs.File.{pointCount};
+ghost use Rattle.rules.specs.Line.{lineOf, trainOf};
+ghost use Rattle.rules.specs.Run.{runRow};
+ghost use Rattle.rules.specs.Time.{runTimes, FastestRun};
+ghost use Rattle.line.specs.Values.{lineIn, trainIn};
+ghost use Rattle.run.specs.Calls.{pairRefusal, pairSpeeds, pairTimes};
+
+// Writes the run's squared speeds and arrivals.
+fn write_run(line: Line, train: Train, speeds: &mut [u32], times: &mut [u64])
+    requires { ⌜ Admitted (lineIn line) (trainIn train) ⌝ }
+    requires { ⌜ (line .points ≤ length (now speeds)) × (line .points ≤ length (now times)) ⌝ }
+    ensures { λ _. ⌜ (now (speeds .exit) ≡ written (now (speeds .entry)) 0 (runRow (lineIn line) (trainIn train))) × (now (times .exit) ≡ written (now (times .entry)) 0 (runTimes (lineIn line) (trainIn train))) ⌝ }
+{
+    write_forward(line, train, speeds);
+    let loss = braking_loss(line, train);
+    write_backward(size(line.points), loss, speeds);
+    write_times(line, train, speeds, times);
+}
+
+// The run of a decoded train on a decoded line: rules 3 to 9 and 11, whatever the two hold. A refusal leaves both buffers as they came.
+pub fn run_train(line: Line, train: Train, speeds: &mut [u32], times: &mut [u64]) -> u8
+    ensures number { λ r. ⌜ r ≡ pairRefusal (lineIn line) (trainIn train) (length (now (speeds .entry))) (length (now (times .entry))) ⌝ }
+    ensures speeds { λ r. ⌜ now (speeds .exit) ≡ pairSpeeds (lineIn line) (trainIn train) (now (speeds .entry)) (now (times .entry)) ⌝ }
+    ensures times { λ r. ⌜ now (times .exit) ≡ pairTimes (lineIn line) (trainIn train) (now (speeds .entry)) (now (times .entry)) ⌝ }
+    ensures fastest { λ r. ⌜ (r ≡ 0 → FastestRun (lineIn line) (trainIn train) (take (line .points) (now (speeds .exit))) (take (line .points) (now (times .exit)))) ⌝ }
+{
+    let number = line::pair_refusal(line, train);
+    if number != 0 {
+        return number;
+    }
+    let points = size(line.points);
+    if speeds.len() < points {
+        return 11;
+    }
+    if times.len() < points {
+        return 11;
+    }
+    write_run(line, train, speeds, times);
+    0
+}
+
+// The run call: rules 1 to 11 for train k of a file. Of an accepted call the first P entries of `speeds` are the run, those of `times` its
+// arrivals; no permitted rival reaches a point before. A refusal leaves both buffers as they came.
+pub fn run(file: &[u8], k: u64, speeds: &mut [u32], times: &mut [u64]) -> u8
+    ensures number { λ r. ⌜ r ≡ runRefusal (now (file .entry)) k (length (now (speeds .entry))) (length (now (times .entry))) ⌝ }
+    ensures speeds { λ r. ⌜ now (speeds .exit) ≡ speedsAfter (now (file .entry)) k (now (speeds .entry)) (now (times .entry)) ⌝ }
+    ensures times { λ r. ⌜ now (times .exit) ≡ timesAfter (now (file .entry)) k (now (speeds .entry)) (now (times .entry)) ⌝ }
+    ensures fastest { λ r. ⌜ (r ≡ 0 → FastestRun (lineOf (now (file .entry))) (trainOf (now (file .entry)) k) (take (pointCount (now (file .entry))) (now (speeds .exit))) (take (pointCount (now (file .entry))) (now (times .exit)))) ⌝ }
+{
+    let opened = line::open_train(file, k);
+    if opened.number != 0 {
+        return opened.number;
+    }
+    run_train(opened.line, opened.train, speeds, times)
+}

@@ -95,11 +95,14 @@ loop-again c =
     let stopped = c .before .before .before .before .before .before .before .before .before .stop-here .ensures ∙ stop-by-list (a .line) (a .train) p (o .next) (o .i) in
     let here : c .before .before .before .before .before .before .before .before .cap-of .result .0 ≡ cap (lineIn (a .line)) (trainIn (a .train)) (o .i) = cap-at _ _ p (o .i) (o .next) (omega (arith, c .before .before .before .before .before .before .before .before .before .before .before .loop-test .taken, c .before .before .before .before .before .before .before .before .before .before .before .before .before .before .before .before .before .before .before .before .before .before .before .size .ensures .0)) (o .inv .1) (o .inv .2) stopped (c .before .before .before .before .before .before .before .before .cap-of .ensures) in
     let v = forward-at _ _ p (o .i) (o .inv .3) here (c .before .before .before .before .before .traction-step .ensures ∙ traction-is _ _ p _ (c .before .before .before .before .before .before .before .before .before .before .before .before .before .before .before .before .before .bands-of .ensures) _) (c .before .before .before .before .lesser .ensures) in
-    let after = c .before .before .before .after-point .ensures ∙ ap (λ x. cond x (o .next + 1) (o .next)) stopped in
-    (omega (arith, c .before .before .before .before .before .before .before .before .before .before .before .loop-test .taken),
-    under-on (a .line) (a .train) p _ _ (o .i) (o .inv .1) (rw (c .before .before .before .before .before .before .before .before .before .before .before .before .before .before .before .before .before .before .last-top .ensures, c .before .before .before .before .before .before .before .before .before .before .before .before .before .before .before .before .before .before .before .train-cells .ensures) at (c .under-at .ensures)),
-    rw after (next-after _ (p .rule8 .apart) (o .inv .2)), before-next _ _ (o .i) v, omega (arith, cap-most _ _ p (o .i), c .before .before .before .before .lesser .ensures),
-    fill-up (o .inv .5) (omega arith) (add-one _) (omega (arith, c .before .before .before .before .before .before .before .before .before .before .before .loop-test .taken, c .before .before .before .before .before .before .before .before .before .before .before .before .before .before .before .before .before .before .before .before .before .before .before .before .before .pre .1, c .before .before .before .before .before .before .before .before .before .before .before .before .before .before .before .before .before .before .before .before .before .before .before .size .ensures .0)) v)
+    let after = c .before .before .before .after-point .ensures ∙ ap (λ x. cond x (o .next + 1) (o .next)) stopped in (
+      omega (arith, c .before .before .before .before .before .before .before .before .before .before .before .loop-test .taken),
+      under-on (a .line) (a .train) p _ _ (o .i) (o .inv .1) (rw (c .before .before .before .before .before .before .before .before .before .before .before .before .before .before .before .before .before .before .last-top .ensures, c .before .before .before .before .before .before .before .before .before .before .before .before .before .before .before .before .before .before .before .train-cells .ensures) at (c .under-at .ensures)),
+      rw after (next-after _ (p .rule8 .apart) (o .inv .2)),
+      before-next _ _ (o .i) v,
+      omega (arith, cap-most _ _ p (o .i), c .before .before .before .before .lesser .ensures),
+      fill-up (o .inv .5) (omega arith) (add-one _) (omega (arith, c .before .before .before .before .before .before .before .before .before .before .before .loop-test .taken, c .before .before .before .before .before .before .before .before .before .before .before .before .before .before .before .before .before .before .before .before .before .before .before .before .before .pre .1, c .before .before .before .before .before .before .before .before .before .before .before .before .before .before .before .before .before .before .before .before .before .before .before .size .ensures .0)) v,
+    )
 
 same-length : tie.Need-same-length Inv-loop μ-loop
 same-length c = c .before .loop .inv .5 .long

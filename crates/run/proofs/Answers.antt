@@ -1,0 +1,156 @@
+-- What the run calls answer and leave in the buffers, refused and accepted. Assumes nothing.
+use Prim.Native.Nat.{ℕ, _≤_, _<_}
+use mathlib.Core.Bool.{Bool, true, false, cond}
+use mathlib.Core.List.{List, [], _∷_, _++_}
+use mathlib.Core.Path.{_≡_, refl, sym, ap, _∙_, subst}
+use native.Mathlib.Omega.{arith}
+use lib.ListN.{length, take, drop}
+use lib.Seq.{take-at}
+use lib.Dec.{eqb}
+use borrow.Author.Tests.{eqb-true, eq-eqb, ne-eqb, le-leb, lt-leb}
+use Rattle.rules.specs.Count.{_and_, row, entry}
+use Rattle.rules.specs.File.{pointCount}
+use Rattle.rules.specs.Line.{Line, Train, lineOf, trainOf}
+use Rattle.rules.specs.Run.{runRow, runAt}
+use Rattle.rules.specs.Time.{arrival, arrivals, runTimes, FastestRun}
+use Rattle.rules.specs.Refusal.{rule, refusal, pairRules, buffersLong}
+use Rattle.rules.specs.Calls.{written, trainRefusal, runRefusal, speedsAfter, timesAfter}
+use Rattle.rules.specs.Admitted.{Parallel, Admitted}
+use Rattle.rules.proofs.Count.{length-row}
+use Rattle.rules.proofs.Refusal.{refusal-none, refusal-cons, append-refused, append-kept, run-refused, run-by-buffers, train-accepted, admitted}
+use Rattle.rules.proofs.Calls.{run-leaves}
+use Rattle.rules.proofs.Pairs.{pair-rising, pair-kept, pair-admitted}
+use Rattle.rules.proofs.Time.{fastest}
+use Rattle.line.specs.declared.decoded.Line as decodedLine
+use Rattle.line.specs.declared.decoded.Train as decodedTrain
+use Rattle.line.specs.Values.{lineIn, trainIn}
+use Rattle.line.specs.Opened.{OpenPair, noLine, noTrain, openedTrain}
+use Rattle.run.specs.Calls.{pairRefusal, pairSpeeds, pairTimes}
+use Rattle.run.proofs.Rows.{written-row}
+
+-- the arrays of a decoded line and train are parallel
+pub decoded-parallel : (l : decodedLine.Line) (t : decodedTrain.Train) → Parallel (lineIn l) (trainIn t)
+decoded-parallel l t =
+    record {
+      limits = length-row _ (l .limits) ∙ sym (length-row _ (l .limits));
+      blocks = length-row _ (l .blocks) ∙ sym (length-row _ (l .blocks));
+      bands = length-row _ (t .bands) ∙ sym (length-row _ (t .bands));
+      stops = length-row _ (t .stops) ∙ sym (length-row _ (t .stops));
+    }
+
+module _ (l : Line) (t : Train) where
+  pub pair-refused : {r : ℕ} (ns nt : ℕ) → r ≡ refusal (pairRules l t) → (r ≡ 0 → ⊥) → r ≡ pairRefusal l t ns nt
+  unfolding pairRefusal
+  pair-refused ns nt e h = e ∙ sym (append-refused (pairRules l t) (rule 11 (buffersLong l ns nt) ∷ []) (pair-rising l t) (λ z. h (e ∙ z)))
+
+  pub pair-by-buffers : (ns nt : ℕ) → refusal (pairRules l t) ≡ 0 → pairRefusal l t ns nt ≡ cond (buffersLong l ns nt) 0 11
+  unfolding pairRefusal
+  pair-by-buffers ns nt z =
+      append-kept (pairRules l t) (rule 11 (buffersLong l ns nt) ∷ []) (pair-rising l t) z ∙ refusal-cons 11 (buffersLong l ns nt) [] ∙ rw refusal-none
+
+  module _ (ns nt : ℕ) (z : refusal (pairRules l t) ≡ 0) where
+    pub short-speeds : ns < l .points → 11 ≡ pairRefusal l t ns nt
+    unfolding buffersLong _and_
+    short-speeds h = sym (pair-by-buffers ns nt z ∙ rw (lt-leb (l .points) ns h))
+
+    pub short-times : l .points ≤ ns → nt < l .points → 11 ≡ pairRefusal l t ns nt
+    unfolding buffersLong _and_
+    short-times g h = sym (pair-by-buffers ns nt z ∙ rw (le-leb (l .points) ns g, lt-leb (l .points) nt h))
+
+    pub long-enough : l .points ≤ ns → l .points ≤ nt → 0 ≡ pairRefusal l t ns nt
+    unfolding buffersLong _and_
+    long-enough g h = sym (pair-by-buffers ns nt z ∙ rw (le-leb (l .points) ns g, le-leb (l .points) nt h))
+
+  module _ (speeds times : List ℕ) where
+    pub buffers-kept : {r : ℕ} → r ≡ pairRefusal l t (length speeds) (length times) → (r ≡ 0 → ⊥) → (speeds ≡ pairSpeeds l t speeds times) × (times ≡ pairTimes l t speeds times)
+    unfolding pairSpeeds pairTimes
+    buffers-kept e h =
+        let q = ne-eqb (pairRefusal l t (length speeds) (length times)) 0 (λ z. h (e ∙ z)) in
+        (rw q, rw q)
+
+    pub buffers-written :
+        {speeds′ times′ : List ℕ} → 0 ≡ pairRefusal l t (length speeds) (length times) → speeds′ ≡ written speeds 0 (runRow l t) → times′ ≡ written times 0 (runTimes l t) →
+        (speeds′ ≡ pairSpeeds l t speeds times) × (times′ ≡ pairTimes l t speeds times)
+    unfolding pairSpeeds pairTimes
+    buffers-written e p q =
+        let z = eq-eqb (pairRefusal l t (length speeds) (length times)) 0 (sym e) in
+        (rw (z, p), rw (z, q))
+
+  -- the first P entries are the run and its arrivals
+  pub first-points : Admitted l t → (speeds times : List ℕ) {speeds′ times′ : List ℕ} → speeds′ ≡ written speeds 0 (runRow l t) → times′ ≡ written times 0 (runTimes l t) →
+      FastestRun l t (take (l .points) speeds′) (take (l .points) times′)
+  unfolding runRow arrivals
+  first-points a speeds times p q =
+      let s = p ∙ written-row (runAt l t) (l .points) speeds in
+      let m = q ∙ written-row (arrival l t (row (runAt l t) (l .points))) (l .points) times in
+      rw (s, m, take-at (row (runAt l t) (l .points)) _ (l .points) (length-row (runAt l t) (l .points)), take-at (row (arrival l t (row (runAt l t) (l .points))) (l .points)) _ (l .points) (length-row _ (l .points)))
+      (fastest l t a)
+
+-- ---- of a file
+
+module _ (file : List ℕ) (k : ℕ) where
+  -- an accepted train's run goes by its line and its train
+  module _ (z : trainRefusal file k ≡ 0) where
+    of-file : Admitted (lineOf file) (trainOf file k)
+    of-file = let both = train-accepted file k z in admitted file (both .0) k (both .1)
+
+    pub same-refusal : (ns nt : ℕ) → pairRefusal (lineOf file) (trainOf file k) ns nt ≡ runRefusal file k ns nt
+    same-refusal ns nt = pair-by-buffers (lineOf file) (trainOf file k) ns nt (pair-kept _ _ of-file) ∙ sym (run-by-buffers file k ns nt z)
+
+    pub same-buffers : (speeds times : List ℕ) →
+        (pairSpeeds (lineOf file) (trainOf file k) speeds times ≡ speedsAfter file k speeds times) × (pairTimes (lineOf file) (trainOf file k) speeds times ≡ timesAfter file k speeds times)
+    unfolding pairSpeeds pairTimes speedsAfter timesAfter
+    same-buffers speeds times = (rw (same-refusal (length speeds) (length times)), rw (same-refusal (length speeds) (length times)))
+
+  points-are : lineOf file .points ≡ pointCount file
+  unfolding lineOf
+  points-are = refl
+
+  -- what opening a file and a train number gives
+  opened-number : openedTrain file k .number ≡ trainRefusal file k
+  unfolding openedTrain
+  opened-number = go (eqb (trainRefusal file k) 0) refl
+    where
+      go : (b : Bool) → eqb (trainRefusal file k) 0 ≡ b →
+          cond {A = OpenPair} b (record { number = 0; line = lineOf file; train = trainOf file k }) (record { number = trainRefusal file k; line = noLine; train = noTrain }) .number ≡ trainRefusal file k
+      go true e = sym (eqb-true _ 0 e)
+      go false e = refl
+
+  opened-pair : trainRefusal file k ≡ 0 → openedTrain file k ≡ record { number = 0; line = lineOf file; train = trainOf file k }
+  unfolding openedTrain
+  opened-pair z = rw (eq-eqb (trainRefusal file k) 0 z)
+
+  module _ {o : OpenPair} (e : o ≡ openedTrain file k) where
+    number-is : o .number ≡ trainRefusal file k
+    number-is = ap (λ (p : OpenPair). p .number) e ∙ opened-number
+
+    pub not-run : (speeds times : List ℕ) → (o .number ≡ 0 → ⊥) →
+        (o .number ≡ runRefusal file k (length speeds) (length times)) × (speeds ≡ speedsAfter file k speeds times) × (times ≡ timesAfter file k speeds times)
+    not-run speeds times h =
+        let n : o .number ≡ runRefusal file k (length speeds) (length times) = number-is ∙ sym (run-refused file k (length speeds) (length times) (λ z. h (number-is ∙ z))) in
+        let kept = run-leaves file k speeds times (λ z. h (n ∙ z)) in
+        (n, sym (kept .0), sym (kept .1))
+
+    module _ (h : o .number ≡ 0) where
+      accepted : trainRefusal file k ≡ 0
+      accepted = sym number-is ∙ h
+
+      pub line-is : o .line ≡ lineOf file
+      line-is = ap (λ (p : OpenPair). p .line) (e ∙ opened-pair accepted)
+
+      pub train-is : o .train ≡ trainOf file k
+      train-is = ap (λ (p : OpenPair). p .train) (e ∙ opened-pair accepted)
+
+      pub as-run : (speeds times : List ℕ) {r : ℕ} {speeds′ times′ : List ℕ} →
+          r ≡ pairRefusal (o .line) (o .train) (length speeds) (length times) → speeds′ ≡ pairSpeeds (o .line) (o .train) speeds times → times′ ≡ pairTimes (o .line) (o .train) speeds times →
+          (r ≡ runRefusal file k (length speeds) (length times)) × (speeds′ ≡ speedsAfter file k speeds times) × (times′ ≡ timesAfter file k speeds times)
+      as-run speeds times {r} {speeds′} {times′} p q s =
+          let p′ : r ≡ pairRefusal (lineOf file) (trainOf file k) (length speeds) (length times) = rw (line-is, train-is) at p in
+          let q′ : speeds′ ≡ pairSpeeds (lineOf file) (trainOf file k) speeds times = rw (line-is, train-is) at q in
+          let s′ : times′ ≡ pairTimes (lineOf file) (trainOf file k) speeds times = rw (line-is, train-is) at s in
+          (p′ ∙ same-refusal accepted (length speeds) (length times), q′ ∙ same-buffers accepted speeds times .0, s′ ∙ same-buffers accepted speeds times .1)
+
+      pub as-fastest : (s m : List ℕ) → FastestRun (o .line) (o .train) (take (o .line .points) s) (take (o .line .points) m) → FastestRun (lineOf file) (trainOf file k) (take (pointCount file) s) (take (pointCount file) m)
+      as-fastest s m f =
+          let g : FastestRun (lineOf file) (trainOf file k) (take (lineOf file .points) s) (take (lineOf file .points) m) = rw (line-is, train-is) at f in
+          subst (λ (p : ℕ). FastestRun (lineOf file) (trainOf file k) (take p s) (take p m)) points-are g

@@ -1,0 +1,40 @@
+use Rattle.run.proofs.Answers.{as-fastest}
+use native.Mathlib.Omega.{arith}
+use mathlib.Core.Path.{_≡_, ap}
+use Rattle.line.specs.Opened.{trainAnswerIn}
+use Rattle.run.proofs.Answers.{not-run, as-run, line-is, train-is}
+use borrow.Author.Needs.{needs}
+use Rattle.run.proofs.run.Statement.{statement}
+use Rattle.run.proofs.run.Tie as tie
+
+open-train-requires : tie.Need-open-train-requires
+open-train-requires c κs = search needs
+
+returns : tie.Need-returns
+returns c =
+    let a = c .before .before .before .before .before .before .args in
+    let kept = not-run _ _ (c .before .before .open-train .ensures) (a .speeds .now) (a .times .now) (c .if1 .taken) in
+    (kept .0, (kept .1, (kept .2, λ z. absurd (c .if1 .taken z))))
+
+run-train-requires : tie.Need-run-train-requires
+run-train-requires c κs = search needs
+
+same-length : tie.Need-same-length
+same-length c = search needs
+
+same-length-2 : tie.Need-same-length-2
+same-length-2 c = search needs
+
+returns-2 : tie.Need-returns-2
+returns-2 c =
+    let a = c .before .before .before .before .before .before .before .before .before .before .before .before .before .args in
+    let o = c .before .before .before .before .before .before .before .before .before .open-train .ensures in
+    let r = c .before .before .before .before .run-train .ensures in
+    let z = c .before .before .before .before .before .before .before .if1 .left in
+    let all = as-run _ _ o z (a .speeds .now) (a .times .now) (r .0) (r .1 .0) (r .1 .1 .0) in
+    (all .0, (all .1, (all .2, λ y. as-fastest _ _ o z _ _ (r .1 .1 .1 y))))
+
+pub run-spec : {M : Type 1} → statement M
+run-spec =
+    tie.close
+    (tie.spec open-train-requires returns run-train-requires same-length same-length-2 returns-2)
