@@ -195,6 +195,11 @@ unfolding lastBelow
 last-none zero test h = refl
 last-none (suc n) test h = rw (h n (omega arith)) (last-none n test (λ i l. h i (omega arith)))
 
+pub last-agree : (n : ℕ) (f g : ℕ → Bool) → ((i : ℕ) → i < n → f i ≡ g i) → lastBelow n f ≡ lastBelow n g
+unfolding lastBelow
+last-agree zero f g e = refl
+last-agree (suc n) f g e = rw (e n (omega arith), last-agree n f g (λ i h. e i (omega arith)))
+
 pub last-at-most : (n : ℕ) (test : ℕ → Bool) → lastBelow (suc n) test ≤ n
 unfolding lastBelow
 last-at-most zero test = go (test 0)

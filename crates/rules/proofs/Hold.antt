@@ -2,13 +2,14 @@
 use Prim.Native.Nat.{ℕ, zero, suc, _+_, _-_, _*_, _^_, _≤_, _<_}
 use mathlib.Core.Bool.{true, false, cond}
 use mathlib.Core.List.{List}
-use mathlib.Core.Logic.{⊎-elim}
+use mathlib.Core.Logic.{_⊎_, inl, inr, ⊎-elim}
 use mathlib.Core.Path.{_≡_, refl, sym, ap, _∙_}
 use native.Mathlib.Decide.{decLt}
-use native.Mathlib.Nat.{le-refl, le-of-eq, eq-or-lt-of-le, le-of-suc-le-suc}
+use native.Mathlib.Nat.{mul-suc, le-refl, le-of-eq, eq-or-lt-of-le, le-of-suc-le-suc}
 use native.Mathlib.Omega.{arith}
 use lib.Dec.{leb, ltb}
 use lib.ListN.{length, List·getD-eq-default}
+use lib.Seq.{ext-getD}
 use borrow.Author.Tests.{leb-true, leb-false, le-leb, lt-leb, lt-ltb, le-ltb}
 use Rattle.rules.specs.Count.{entry, row, lastBelow}
 use Rattle.rules.specs.File.{trainCount}
@@ -20,7 +21,8 @@ use Rattle.rules.specs.Sheet.{begin, end}
 use Rattle.rules.specs.Calls.{fileRefusal}
 use Rattle.rules.specs.Admitted.{Admitted, Rule14}
 use Rattle.rules.specs.Meaning.{Brakes, IsApproachPoint, IsHold}
-use Rattle.rules.proofs.Count.{rises-far, length-row, entry-row, last-passes, last-none, last-at-most}
+use Rattle.rules.proofs.Count.{rises-far, length-row, entry-row, last-passes, last-none, last-at-most, last-agree}
+use Rattle.rules.proofs.Fill.{Filled}
 use Rattle.rules.proofs.File.{AreBytes, word-most}
 use Rattle.rules.proofs.Refusal.{admitted}
 use Rattle.rules.proofs.Time.{departs-before, arrival-most}
@@ -43,7 +45,61 @@ module _ (speeds : List ℕ) (loss b : ℕ) where
       fast h i l (yes g) = g
       fast h i l (no g) = absurd (h i (record { before = omega arith; slow = omega arith }))
 
+  -- a point whose successors up to b are all too fast, and which itself brakes in time or is point 0
+  pub approach-at :
+      (i : ℕ) → i ≤ b → (0 < i → entry speeds i ≤ loss * (b - i)) → ((k : ℕ) → i < k → k ≤ b → loss * (b - k) < entry speeds k) →
+      i ≡ approachPoint speeds loss b
+  approach-at i l slow fast = go (decLt (loss * (b - i)) (entry speeds i))
+    where
+      first : loss * (b - i) < entry speeds i → Dec (0 < i) → i ≡ 0
+      first g (yes m) = absurd (omega (arith, slow m))
+      first g (no m) = omega arith
+      none : i ≡ 0 → loss * (b - i) < entry speeds i → (k : ℕ) → Brakes speeds loss b k → Dec (i < k) → ⊥
+      none z g k h (yes m) = omega (arith, fast k m (h .before), h .slow)
+      none z g k h (no m) =
+          let e : k ≡ i = omega arith in
+          let slow : entry speeds i ≤ loss * (b - i) = rw e at (h .slow) in
+          omega arith
+      last : (a : ℕ) → Brakes speeds loss b a → i ≤ a → Dec (i < a) → i ≡ a
+      last a h m (yes n) = absurd (omega (arith, fast a n (h .before), h .slow))
+      last a h m (no n) = omega arith
+      go : Dec (loss * (b - i) < entry speeds i) → i ≡ approachPoint speeds loss b
+      go (yes g) = let z = first g (decLt 0 i) in z ∙ sym (approach-is .none (λ k h. none z g k h (decLt i k)))
+      go (no g) =
+          let (h, m) = approach-is .greatest i (record { before = l; slow = omega arith }) in
+          last (approachPoint speeds loss b) h m (decLt i (approachPoint speeds loss b))
+
+  -- where braking holds, all points after one that is too fast are too fast
+  pub fast-on :
+      ((k : ℕ) → k < b → entry speeds k ≤ entry speeds (suc k) + loss) → {i : ℕ} → loss * (b - i) < entry speeds i → (k : ℕ) → i ≤ k → k ≤ b →
+      loss * (b - k) < entry speeds k
+  fast-on braked {i} g zero l m = let e : i ≡ 0 = omega arith in rw e at g
+  fast-on braked {i} g (suc k) l m = go (eq-or-lt-of-le l) (λ n. fast-on braked g k n (omega arith))
+    where
+      go : (i ≡ suc k) ⊎ (i < suc k) → (i ≤ k → loss * (b - k) < entry speeds k) → loss * (b - suc k) < entry speeds (suc k)
+      go (inl e) before = rw e at g
+      go (inr n) before =
+          let e : b - k ≡ suc (b - suc k) = omega arith in
+          let d : loss * suc (b - suc k) < entry speeds k = rw e at (before (le-of-suc-le-suc n)) in
+          omega (arith, braked k (omega arith), mul-suc loss (b - suc k))
+
+  pub approach-slow : 0 < approachPoint speeds loss b → entry speeds (approachPoint speeds loss b) ≤ loss * (b - approachPoint speeds loss b)
+  approach-slow h = go (decLt (loss * (b - approachPoint speeds loss b)) (entry speeds (approachPoint speeds loss b)))
+    where
+      go : Dec (loss * (b - approachPoint speeds loss b) < entry speeds (approachPoint speeds loss b)) → entry speeds (approachPoint speeds loss b) ≤ loss * (b - approachPoint speeds loss b)
+      go (yes g) = absurd (omega (arith, approach-is .none (λ i k. omega (arith, approach-is .greatest i k .0 .slow))))
+      go (no g) = omega arith
+
+-- the approach point goes by the speeds up to the block
+pub approach-agree : (s r : List ℕ) (loss b : ℕ) → ((i : ℕ) → i ≤ b → entry s i ≡ entry r i) → approachPoint s loss b ≡ approachPoint r loss b
+unfolding approachPoint
+approach-agree s r loss b e = last-agree (suc b) _ _ (λ i h. rw (e i (le-of-suc-le-suc h)))
+
 -- ---- the hold record
+
+places-long : (n : ℕ) (f : ℕ → ℕ) → length (blockPlaces n f) ≡ 32
+unfolding blockPlaces
+places-long n f = length-row _ 32
 
 places-within : (n : ℕ) (f : ℕ → ℕ) → n ≤ 32 → (j : ℕ) → j < n → entry (blockPlaces n f) j ≡ f j
 unfolding blockPlaces
@@ -56,6 +112,14 @@ places-beyond n f j h = go (decLt j 32)
     go : Dec (j < 32) → entry (row (λ j. cond (ltb j n) (f j) 0) 32) j ≡ 0
     go (yes l) = entry-row (λ j. cond (ltb j n) (f j) 0) 32 j l ∙ rw (le-ltb j n h)
     go (no l) = List·getD-eq-default (row (λ j. cond (ltb j n) (f j) 0) 32) 0 (rw length-row (omega arith))
+
+-- places filled up to n, with 0 from there on
+pub places-filled : {f : ℕ → ℕ} {n : ℕ} {s₀ s : List ℕ} → Filled f 0 n s₀ s → length s₀ ≡ 32 → ((k : ℕ) → entry s₀ k ≡ 0) → n ≤ 32 → s ≡ blockPlaces n f
+places-filled {f} {n} {s₀} {s} r long zeros m = ext-getD 0 s (blockPlaces n f) (r .long ∙ long ∙ sym (places-long n f)) (λ k g. at k (decLt k n))
+  where
+    at : (k : ℕ) → Dec (k < n) → entry s k ≡ entry (blockPlaces n f) k
+    at k (yes h) = r .inside k (omega arith) h ∙ sym (places-within n f m k h)
+    at k (no h) = r .over k (omega arith) ∙ zeros k ∙ sym (places-beyond n f k (omega arith))
 
 pub hold-is : (l : Line) (t : Train) (speeds : List ℕ) → length (l .blockStarts) ≤ 32 → IsHold l t speeds (holdWith l t speeds)
 unfolding holdWith holdBegin holdEnd

@@ -5,11 +5,12 @@ use mathlib.Core.List.{List, [], _∷_, _++_}
 use mathlib.Core.Option.{Option, none, some}
 use lib.Dec.{eqb}
 use lib.ListN.{length, take, drop}
+use Rattle.rules.specs.Count.{row}
 use Rattle.rules.specs.File.{recordBytes}
 use Rattle.rules.specs.Line.{lineOf, trainOf}
 use Rattle.rules.specs.Run.{runRow}
 use Rattle.rules.specs.Time.{runTimes}
-use Rattle.rules.specs.Hold.{Hold}
+use Rattle.rules.specs.Hold.{Hold, holdOf}
 use Rattle.rules.specs.Sheet.{Sheet, fresh, leastStart, blockNamed, sheetAfter}
 use Rattle.rules.specs.Refusal.{refusal, firstBroken, fileRules, trainRules, runRules, countRule, addingRules}
 
@@ -41,6 +42,20 @@ speedsAfter file k speeds times =
 unfoldable pub timesAfter : List ℕ → ℕ → List ℕ → List ℕ → List ℕ
 timesAfter file k speeds times =
     cond (eqb (runRefusal file k (length speeds) (length times)) 0) (written times 0 (runTimes (lineOf file) (trainOf file k))) times
+
+-- ---- the hold call: the hold record and the number 0, or the number of refusal and a record of no blocks
+
+pub record Holding : Type 0 where
+  pub number : ℕ
+  pub hold : Hold
+
+abbrev pub emptyHold : Hold
+emptyHold = record { blocks = 0; begins = row (λ i. 0) 32; ends = row (λ i. 0) 32 }
+
+unfoldable pub held : List ℕ → ℕ → ℕ → ℕ → Holding
+held file k speeds times =
+    cond (eqb (runRefusal file k speeds times) 0) (record { number = 0; hold = holdOf (lineOf file) (trainOf file k) })
+    (record { number = runRefusal file k speeds times; hold = emptyHold })
 
 -- ---- the opening call: a fresh sheet and the number 0, or the number 12 and a sheet of no blocks
 

@@ -1,6 +1,7 @@
 // The run of a train: its squared speeds and its arrivals.
 mod bands;
 mod forward;
+mod motion;
 mod numbers;
 mod root;
 mod speed;
@@ -12,8 +13,10 @@ mod walk;
 use forward::write_forward;
 use line::Line;
 use line::Train;
+pub use motion::braking_loss;
+pub use motion::train_cells;
+use numbers::narrow;
 use numbers::size;
-use sweep::braking_loss;
 use sweep::write_backward;
 use times::write_times;
 ghost use mathlib.Core.Path.{_≡_};
@@ -35,7 +38,7 @@ fn write_run(line: Line, train: Train, speeds: &mut [u32], times: &mut [u64])
     ensures { λ _. ⌜ (now (speeds .exit) ≡ written (now (speeds .entry)) 0 (runRow (lineIn line) (trainIn train))) × (now (times .exit) ≡ written (now (times .entry)) 0 (runTimes (lineIn line) (trainIn train))) ⌝ }
 {
     write_forward(line, train, speeds);
-    let loss = braking_loss(line, train);
+    let loss = narrow(braking_loss(line, train));
     write_backward(size(line.points), loss, speeds);
     write_times(line, train, speeds, times);
 }

@@ -1,5 +1,6 @@
 // The running times: cell times and dwells added up from point to point.
 use crate::numbers::size;
+use crate::numbers::wide64;
 use crate::root::root;
 use crate::speed::Speed;
 use crate::speed::SquaredSpeed;
@@ -20,12 +21,6 @@ ghost use Rattle.run.specs.Stops.{Apart, NextStop, dwellBefore};
 struct Passing {
     dwell: u64,
     next: usize,
-}
-
-fn wide64(x: u16) -> u64
-    ensures { λ r. ⌜ (r ≡ x) × (r < 65536) ⌝ }
-{
-    x as u64
 }
 
 // In microseconds, over a step in m.

@@ -1,0 +1,19 @@
+-- What the hold calls answer, and what their answer stands for in the rules.
+use Prim.Native.Nat.{ℕ}
+use mathlib.Core.Bool.{cond}
+use lib.Dec.{eqb}
+use Rattle.rules.specs.Line.{Line, Train}
+use Rattle.rules.specs.Hold.{holdOf}
+use Rattle.rules.specs.Calls.{Holding, emptyHold}
+use Rattle.run.specs.Calls.{pairRefusal}
+use Rattle.sheet.specs.Values.{asHold}
+use Rattle.hold.specs.declared.HoldAnswer.{HoldAnswer}
+
+abbrev pub asHolding : HoldAnswer → Holding
+asHolding r = record { number = r .number; hold = asHold (r .hold) }
+
+-- the hold of a decoded line and train, by the lengths of the lent buffers
+unfoldable pub pairHeld : Line → Train → ℕ → ℕ → Holding
+pairHeld l t speeds times =
+    cond (eqb (pairRefusal l t speeds times) 0) (record { number = 0; hold = holdOf l t })
+    (record { number = pairRefusal l t speeds times; hold = emptyHold })

@@ -1,0 +1,112 @@
+// The hold of a train: for each block when its hold begins and ends.
+mod approach;
+mod dwell;
+
+use approach::approach_point;
+use dwell::dwell_at;
+use dwell::stop_from;
+use line::Line;
+use line::Train;
+use sheet::HoldRecord;
+ghost use mathlib.Core.Path.{_≡_};
+ghost use Prim.Native.Nat.{ℕ, _+_, _*_, _<_, _≤_};
+ghost use lib.ListN.{length};
+ghost use Rattle.rules.specs.Admitted.{Admitted};
+ghost use Rattle.rules.specs.Calls.{held, emptyHold, speedsAfter, timesAfter};
+ghost use Rattle.rules.specs.Count.{entry};
+ghost use Rattle.rules.specs.Hold.{holdOf};
+ghost use Rattle.rules.specs.Run.{runRow};
+ghost use Rattle.rules.specs.Time.{runTimes};
+ghost use Rattle.line.specs.Values.{lineIn, trainIn};
+ghost use Rattle.run.specs.Calls.{pairSpeeds, pairTimes};
+ghost use Rattle.sheet.specs.Values.{asHold};
+ghost use Rattle.hold.specs.Calls.{asHolding, pairHeld};
+
+// The number 0 and the hold record, or the number of refusal and a record of no blocks.
+pub struct HoldAnswer {
+    pub number: u8,
+    pub hold: HoldRecord,
+}
+
+fn empty_record(blocks: u64) -> HoldRecord
+    ensures { λ r. ⌜ asHold r ≡ record { blocks = blocks; begins = emptyHold .begins; ends = emptyHold .ends } ⌝ }
+{
+    HoldRecord {
+        blocks,
+        begins: [0; 32],
+        ends: [0; 32],
+    }
+}
+
+// What a hold adds to the arrival that clears its block, in microseconds: release, set-up and 5 seconds of communication.
+fn clearing_time(line: Line) -> u64
+    ensures { λ r. ⌜ r ≡ 100000 * line .release + 100000 * line .setup + 5000000 ⌝ }
+{
+    100000 * line.release as u64 + 100000 * line.setup as u64 + 5000000
+}
+
+// The hold record of the run that the buffers hold.
+fn hold_record(line: Line, train: Train, speeds: &[u32], times: &[u64]) -> HoldRecord
+    requires { ⌜ Admitted (lineIn line) (trainIn train) ⌝ }
+    requires { ⌜ (line .points ≤ length (now speeds)) × (line .points ≤ length (now times)) ⌝ }
+    requires { ⌜ ((k : ℕ) → k < line .points → entry (now speeds) k ≡ entry (runRow (lineIn line) (trainIn train)) k) ⌝ }
+    requires { ⌜ ((k : ℕ) → k < line .points → entry (now times) k ≡ entry (runTimes (lineIn line) (trainIn train)) k) ⌝ }
+    ensures { λ r. ⌜ asHold r ≡ holdOf (lineIn line) (trainIn train) ⌝ }
+{
+    let loss = run::braking_loss(line, train);
+    let cells = run::train_cells(line, train);
+    let clearing = clearing_time(line);
+    let mut hold = empty_record(line.blocks as u64);
+    let mut point = 0;
+    let mut next = 0;
+    let mut j = 0;
+    while j < line.blocks {
+        point = approach_point(speeds, loss, point, line.starts[j] as usize);
+        next = stop_from(&train.halts, train.stops, next, point);
+        let dwell = dwell_at(&train.halts, &train.dwells, train.stops, next, point);
+        hold.begins[j] = times[point] + dwell;
+        hold.ends[j] = times[line.ends[j] as usize + cells] + clearing;
+        j += 1;
+    }
+    hold
+}
+
+// The hold of a decoded train on a decoded line: rules 3 to 9 and 11, whatever the two hold. The buffers end as after `run::run_train`.
+pub fn hold_train(
+    line: Line,
+    train: Train,
+    speeds: &mut [u32],
+    times: &mut [u64],
+) -> HoldAnswer
+    ensures answer { λ r. ⌜ asHolding r ≡ pairHeld (lineIn line) (trainIn train) (length (now (speeds .entry))) (length (now (times .entry))) ⌝ }
+    ensures speeds { λ r. ⌜ now (speeds .exit) ≡ pairSpeeds (lineIn line) (trainIn train) (now (speeds .entry)) (now (times .entry)) ⌝ }
+    ensures times { λ r. ⌜ now (times .exit) ≡ pairTimes (lineIn line) (trainIn train) (now (speeds .entry)) (now (times .entry)) ⌝ }
+{
+    let number = run::run_train(line, train, speeds, times);
+    if number != 0 {
+        return HoldAnswer {
+            number,
+            hold: empty_record(0),
+        };
+    }
+    HoldAnswer {
+        number,
+        hold: hold_record(line, train, speeds, times),
+    }
+}
+
+// The hold call: rules 1 to 11 for train k of a file. The buffers end as after the run call.
+pub fn hold(file: &[u8], k: u64, speeds: &mut [u32], times: &mut [u64]) -> HoldAnswer
+    ensures answer { λ r. ⌜ asHolding r ≡ held (now (file .entry)) k (length (now (speeds .entry))) (length (now (times .entry))) ⌝ }
+    ensures speeds { λ r. ⌜ now (speeds .exit) ≡ speedsAfter (now (file .entry)) k (now (speeds .entry)) (now (times .entry)) ⌝ }
+    ensures times { λ r. ⌜ now (times .exit) ≡ timesAfter (now (file .entry)) k (now (speeds .entry)) (now (times .entry)) ⌝ }
+{
+    let opened = line::open_train(file, k);
+    if opened.number != 0 {
+        return HoldAnswer {
+            number: opened.number,
+            hold: empty_record(0),
+        };
+    }
+    hold_train(opened.line, opened.train, speeds, times)
+}

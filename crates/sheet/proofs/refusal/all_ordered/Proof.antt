@@ -1,0 +1,67 @@
+-- `all_ordered`: at the loop's test the first b beginnings are below their ends. Assumes nothing.
+use Prim.Native.Nat.{_≤_, _-_}
+use mathlib.Core.Bool.{true}
+use mathlib.Core.Path.{_≡_, sym}
+use native.Mathlib.Omega.{arith}
+use lib.Dec.{ltb}
+use borrow.Author.Needs.{needs}
+use borrow.Author.Tests.{le-ltb, lt-ltb}
+use Rattle.rules.specs.Count.{entry, every}
+use Rattle.sheet.proofs.Loops.{at-end, every-none, every-next, every-broken}
+use Rattle.sheet.proofs.refusal.all_ordered.Statement.{statement}
+use Rattle.sheet.proofs.refusal.all_ordered.Tie as tie
+
+abbrev Inv-loop : tie.InvT-loop
+Inv-loop n begins ends b₀ b = (b ≤ n) × (every b (λ k. ltb (entry begins k) (entry ends k)) ≡ true)
+
+abbrev μ-loop : tie.MeasureT-loop
+μ-loop n begins ends b₀ b = n - b
+
+loop-holds : tie.Need-loop-holds Inv-loop μ-loop
+loop-holds c = (search needs, every-none _)
+
+mul-if1 : tie.Need-mul-if1 Inv-loop μ-loop
+mul-if1 c = search needs
+
+array-read-if1 : tie.Need-array-read-if1 Inv-loop μ-loop
+array-read-if1 c = search needs
+
+mul-if1-2 : tie.Need-mul-if1-2 Inv-loop μ-loop
+mul-if1-2 c = search needs
+
+array-read-if1-2 : tie.Need-array-read-if1-2 Inv-loop μ-loop
+array-read-if1-2 c = search needs
+
+returns : tie.Need-returns Inv-loop μ-loop
+returns c = sym (every-broken _ _ _ (search needs) (le-ltb _ _ (c .if1 .taken)))
+
+add-b : tie.Need-add-b Inv-loop μ-loop
+add-b c = search needs
+
+loop-less : tie.Need-loop-less Inv-loop μ-loop
+loop-less c = search needs
+
+loop-again : tie.Need-loop-again Inv-loop μ-loop
+loop-again c = (search needs, every-next _ _ (c .before .before .loop .inv .1) (lt-ltb _ _ (c .if1 .left)))
+
+returns-2 : tie.Need-returns-2 Inv-loop μ-loop
+returns-2 c =
+    let e : c .before .loop .b ≡ c .before .before .args .n = omega arith in
+    sym (at-end (λ k. every k (λ b. ltb (entry (c .before .before .args .t2) b) (entry (c .before .before .args .t3) b)) ≡ true) e (c .before .loop .inv .1))
+
+pub all-ordered-spec : {M : Type 1} → statement M
+all-ordered-spec =
+    tie.close
+    (tie.spec
+    Inv-loop
+    μ-loop
+    loop-holds
+    mul-if1
+    array-read-if1
+    mul-if1-2
+    array-read-if1-2
+    returns
+    add-b
+    loop-less
+    loop-again
+    returns-2)

@@ -1,0 +1,141 @@
+// The sheet of starts: opening a sheet, adding a hold record to it, and the headway of two trains.
+mod after;
+mod block;
+mod refusal;
+mod start;
+
+use after::sheet_after;
+use block::block_named;
+use refusal::MOST_TRAINS;
+use refusal::count_kept;
+use refusal::hold_kept;
+use refusal::refusal_number;
+use refusal::refused;
+use refusal::sheet_kept;
+use start::least_start;
+ghost use mathlib.Core.Path.{_≡_};
+ghost use Rattle.rules.specs.Calls as rules;
+ghost use Rattle.rules.specs.Sheet as sheets;
+ghost use Rattle.rules.specs.Demand.{ThirdDemand};
+ghost use Rattle.sheet.specs.Values.{asHold, asSheet, answered, asAddition, asOpening, asHeadway};
+
+#[repr(C)]
+pub struct HoldRecord {
+    pub blocks: u64,
+    pub begins: [u64; 32],
+    pub ends: [u64; 32],
+}
+
+#[repr(C)]
+pub struct Sheet {
+    pub blocks: u64,
+    pub trains: u64,
+    pub free: [u64; 32],
+}
+
+// The least start and the block named, or the number of refusal.
+pub enum Answer {
+    Accepted { start: u64, block: u64 },
+    Refused(u64),
+}
+
+// The answer, and the sheet as the call leaves it.
+pub struct Addition {
+    pub answer: Answer,
+    pub sheet: Sheet,
+}
+
+// The number 0 and a fresh sheet, or the number of refusal and a sheet of no blocks.
+pub struct Opened {
+    pub number: u64,
+    pub sheet: Sheet,
+}
+
+// The headway, or the number of the first refusal met.
+pub enum HeadwayAnswer {
+    Headway(u64),
+    Refused(u64),
+}
+
+// Opens a sheet. Every list of adding calls from it meets the third demand.
+pub fn open_sheet(blocks: u64) -> Opened
+    ensures sheet { λ r. ⌜ asOpening r ≡ rules.opened blocks ⌝ }
+    ensures demand { λ r. ⌜ (r .number ≡ 0 → ThirdDemand blocks (asSheet (r .sheet))) ⌝ }
+{
+    if !count_kept(blocks) {
+        return Opened {
+            number: 12,
+            sheet: fresh(0),
+        };
+    }
+    Opened {
+        number: 0,
+        sheet: fresh(blocks),
+    }
+}
+
+fn fresh(blocks: u64) -> Sheet
+    ensures { λ r. ⌜ asSheet r ≡ sheets.fresh blocks ⌝ }
+{
+    Sheet {
+        blocks,
+        trains: 0,
+        free: [0; 32],
+    }
+}
+
+// Adds a train to a sheet with any contents.
+pub fn with_hold(sheet: Sheet, hold: HoldRecord) -> Addition
+    ensures { λ r. ⌜ asAddition r ≡ rules.added (asSheet sheet) (asHold hold) ⌝ }
+{
+    let blocks = sheet.blocks;
+    let trains = sheet.trains;
+    if !sheet_kept(sheet) {
+        return refused(sheet, 12);
+    }
+    if trains == MOST_TRAINS {
+        return refused(sheet, 13);
+    }
+    if !hold_kept(blocks, hold) {
+        return refused(sheet, 14);
+    }
+    let start = least_start(sheet, hold);
+    let block = block_named(sheet, hold, start);
+    let next = sheet_after(sheet, hold, start);
+    Addition {
+        answer: Answer::Accepted { start, block },
+        sheet: next,
+    }
+}
+
+// The sheet is lent, and altered there.
+pub fn add(sheet: &mut Sheet, hold: HoldRecord) -> Answer
+    ensures { λ r. ⌜ answered r (now (sheet .exit)) ≡ rules.added (asSheet (now (sheet .entry))) (asHold hold) ⌝ }
+{
+    let before = *sheet;
+    let done = with_hold(before, hold);
+    *sheet = done.sheet;
+    done.answer
+}
+
+// The second train's start on a sheet of these two.
+pub fn headway(first: HoldRecord, second: HoldRecord) -> HeadwayAnswer
+    ensures { λ r. ⌜ asHeadway r ≡ rules.headway (asHold first) (asHold second) ⌝ }
+{
+    let blocks = first.blocks;
+    let opened = open_sheet(blocks);
+    if opened.number != 0 {
+        return HeadwayAnswer::Refused(opened.number);
+    }
+    let one = with_hold(opened.sheet, first);
+    let earlier = one.answer;
+    let Answer::Accepted { start: _, block: _ } = earlier else {
+        return HeadwayAnswer::Refused(refusal_number(earlier));
+    };
+    let two = with_hold(one.sheet, second);
+    let later = two.answer;
+    let Answer::Accepted { start, block: _ } = later else {
+        return HeadwayAnswer::Refused(refusal_number(later));
+    };
+    HeadwayAnswer::Headway(start)
+}
