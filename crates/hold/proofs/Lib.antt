@@ -1,0 +1,4 @@
+pub mod Nearing
+pub mod Seeking
+pub mod Filling
+pub mod Answers

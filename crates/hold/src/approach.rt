@@ -23,10 +23,11 @@ pub fn approach_point(speeds: &[u32], loss: u64, from: usize, b: usize) -> usize
 {
     let mut i = from;
     while i < b {
-        if !brakes_within(speeds[i + 1], loss, b - (i + 1)) {
+        if brakes_within(speeds[i + 1], loss, b - (i + 1)) {
+            i += 1;
+        } else {
             return i;
         }
-        i += 1;
     }
     i
 }

@@ -1,4 +1,6 @@
 // The dwell at a point, by a running index of the stops.
+use crate::numbers::size;
+use crate::numbers::wide64;
 ghost use mathlib.Core.Path.{_≡_};
 ghost use Prim.Native.Nat.{ℕ, _+_, _<_, _≤_};
 ghost use Rattle.rules.specs.Count.{entry, row};
@@ -12,7 +14,7 @@ pub fn stop_from(halts: &[u16; 64], stops: usize, next: usize, i: usize) -> usiz
 {
     let mut s = next;
     while s < stops {
-        if i <= halts[s] as usize {
+        if i <= size(halts[s]) {
             return s;
         }
         s += 1;
@@ -35,11 +37,11 @@ pub fn dwell_at<'a>(
     if stops <= next {
         return 0;
     }
-    if halts[next] as usize != i {
+    if size(halts[next]) != i {
         return 0;
     }
     if i == 0 {
         return 0;
     }
-    1000000 * dwells[next] as u64
+    1000000 * wide64(dwells[next])
 }

@@ -1,12 +1,14 @@
 // The hold of a train: for each block when its hold begins and ends.
 mod approach;
 mod dwell;
+mod numbers;
 
 use approach::approach_point;
 use dwell::dwell_at;
 use dwell::stop_from;
 use line::Line;
 use line::Train;
+use numbers::size;
 use sheet::HoldRecord;
 ghost use mathlib.Core.Path.{_≡_};
 ghost use Prim.Native.Nat.{ℕ, _+_, _*_, _<_, _≤_};
@@ -40,7 +42,7 @@ fn empty_record(blocks: u64) -> HoldRecord
 
 // What a hold adds to the arrival that clears its block, in microseconds: release, set-up and 5 seconds of communication.
 fn clearing_time(line: Line) -> u64
-    ensures { λ r. ⌜ r ≡ 100000 * line .release + 100000 * line .setup + 5000000 ⌝ }
+    ensures { λ r. ⌜ (r ≡ 100000 * line .release + 100000 * line .setup + 5000000) × (r < 13112000001) ⌝ }
 {
     100000 * line.release as u64 + 100000 * line.setup as u64 + 5000000
 }
@@ -61,23 +63,18 @@ fn hold_record(line: Line, train: Train, speeds: &[u32], times: &[u64]) -> HoldR
     let mut next = 0;
     let mut j = 0;
     while j < line.blocks {
-        point = approach_point(speeds, loss, point, line.starts[j] as usize);
+        point = approach_point(speeds, loss, point, size(line.starts[j]));
         next = stop_from(&train.halts, train.stops, next, point);
         let dwell = dwell_at(&train.halts, &train.dwells, train.stops, next, point);
         hold.begins[j] = times[point] + dwell;
-        hold.ends[j] = times[line.ends[j] as usize + cells] + clearing;
+        hold.ends[j] = times[size(line.ends[j]) + cells] + clearing;
         j += 1;
     }
     hold
 }
 
 // The hold of a decoded train on a decoded line: rules 3 to 9 and 11, whatever the two hold. The buffers end as after `run::run_train`.
-pub fn hold_train(
-    line: Line,
-    train: Train,
-    speeds: &mut [u32],
-    times: &mut [u64],
-) -> HoldAnswer
+pub fn hold_train(line: Line, train: Train, speeds: &mut [u32], times: &mut [u64]) -> HoldAnswer
     ensures answer { λ r. ⌜ asHolding r ≡ pairHeld (lineIn line) (trainIn train) (length (now (speeds .entry))) (length (now (times .entry))) ⌝ }
     ensures speeds { λ r. ⌜ now (speeds .exit) ≡ pairSpeeds (lineIn line) (trainIn train) (now (speeds .entry)) (now (times .entry)) ⌝ }
     ensures times { λ r. ⌜ now (times .exit) ≡ pairTimes (lineIn line) (trainIn train) (now (speeds .entry)) (now (times .entry)) ⌝ }

@@ -54,15 +54,18 @@ module _ (speeds : List ℕ) (loss b : ℕ) where
       first : loss * (b - i) < entry speeds i → Dec (0 < i) → i ≡ 0
       first g (yes m) = absurd (omega (arith, slow m))
       first g (no m) = omega arith
+
       none : i ≡ 0 → loss * (b - i) < entry speeds i → (k : ℕ) → Brakes speeds loss b k → Dec (i < k) → ⊥
       none z g k h (yes m) = omega (arith, fast k m (h .before), h .slow)
       none z g k h (no m) =
           let e : k ≡ i = omega arith in
           let slow : entry speeds i ≤ loss * (b - i) = rw e at (h .slow) in
           omega arith
+
       last : (a : ℕ) → Brakes speeds loss b a → i ≤ a → Dec (i < a) → i ≡ a
       last a h m (yes n) = absurd (omega (arith, fast a n (h .before), h .slow))
       last a h m (no n) = omega arith
+
       go : Dec (loss * (b - i) < entry speeds i) → i ≡ approachPoint speeds loss b
       go (yes g) = let z = first g (decLt 0 i) in z ∙ sym (approach-is .none (λ k h. none z g k h (decLt i k)))
       go (no g) =

@@ -1,13 +1,13 @@
 // The forward sweep: each squared speed at most its cap and the traction step from the one before, in one pass with no row of caps.
 use crate::bands::bands_of;
 use crate::bands::traction_step;
+use crate::motion::train_cells;
 use crate::numbers::lesser;
 use crate::numbers::size;
 use crate::numbers::squared_of;
 use crate::speed::SquaredSpeed;
 use crate::stops::after_point;
 use crate::stops::stop_here;
-use crate::motion::train_cells;
 use crate::sweep::last_top;
 use crate::walk::Under;
 use crate::walk::lowest_limit;

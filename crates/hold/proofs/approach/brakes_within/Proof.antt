@@ -1,11 +1,11 @@
+use native.Mathlib.Nat.{mul-le-mul}
+use native.Mathlib.Omega.{arith}
 use borrow.Author.Needs.{needs}
 use Rattle.hold.proofs.approach.brakes_within.Statement.{statement}
 use Rattle.hold.proofs.approach.brakes_within.Tie as tie
-use Rattle.hold.proofs.approach.brakes_within.Reads as reads
-use Rattle.hold.proofs.approach.brakes_within.Lts as lts
 
 mul-result : tie.Need-mul-result
-mul-result c = search needs
+mul-result c = omega (arith, mul-le-mul (c .pre .0) (c .pre .1))
 
 returns : tie.Need-returns
 returns c = search needs

@@ -1,29 +1,32 @@
+use Rattle.hold.proofs.Seeking.{Seeking, seek-on, seek-there, seek-end}
+use Rattle.rules.specs.Count.{entry}
+use native.Mathlib.Omega.{arith}
+use mathlib.Core.Path.{sym, _∙_}
+use Prim.Native.Nat.{_-_}
 use borrow.Author.Needs.{needs}
 use Rattle.hold.proofs.dwell.stop_from.Statement.{statement}
 use Rattle.hold.proofs.dwell.stop_from.Tie as tie
-use Rattle.hold.proofs.dwell.stop_from.Reads as reads
-use Rattle.hold.proofs.dwell.stop_from.Lts as lts
 
 abbrev Inv-loop : tie.InvT-loop
-Inv-loop halts stops next i s₀ s = ?
+Inv-loop halts stops next i s₀ s = Seeking (entry halts) stops i s
 
 abbrev μ-loop : tie.MeasureT-loop
-μ-loop halts stops next i s₀ s = ?
+μ-loop halts stops next i s₀ s = stops - s
 
 loop-holds : tie.Need-loop-holds Inv-loop μ-loop
-loop-holds c = search needs
+loop-holds c = record { there = c .pre .0 .1; passed = c .pre .1 }
 
-mul-if1 : tie.Need-mul-if1 Inv-loop μ-loop
-mul-if1 c = search needs
+mul-size : tie.Need-mul-size Inv-loop μ-loop
+mul-size c = search needs
 
-element-copy-out-if1 : tie.Need-element-copy-out-if1 Inv-loop μ-loop
-element-copy-out-if1 c = search needs
+element-copy-out-size : tie.Need-element-copy-out-size Inv-loop μ-loop
+element-copy-out-size c = search needs
 
-cast-if1 : tie.Need-cast-if1 Inv-loop μ-loop
-cast-if1 c = search needs
+size-requires : tie.Need-size-requires Inv-loop μ-loop
+size-requires c κs = search needs
 
 returns : tie.Need-returns Inv-loop μ-loop
-returns c = search needs
+returns c = seek-there (c .before .before .before .before .loop .inv) (c .before .before .before .before .before .pre .0 .2) (omega arith) (omega (arith, c .before .size .ensures .0))
 
 add-s : tie.Need-add-s Inv-loop μ-loop
 add-s c = search needs
@@ -32,10 +35,10 @@ loop-less : tie.Need-loop-less Inv-loop μ-loop
 loop-less c = search needs
 
 loop-again : tie.Need-loop-again Inv-loop μ-loop
-loop-again c = search needs
+loop-again c = seek-on (c .before .before .before .before .loop .inv) (omega arith) (omega (arith, c .before .size .ensures .0))
 
 returns-2 : tie.Need-returns-2 Inv-loop μ-loop
-returns-2 c = search needs
+returns-2 c = seek-end (c .before .loop .inv) (omega arith)
 
 pub stop-from-spec : {M : Type 1} → statement M
 stop-from-spec =
@@ -44,9 +47,9 @@ stop-from-spec =
     Inv-loop
     μ-loop
     loop-holds
-    mul-if1
-    element-copy-out-if1
-    cast-if1
+    mul-size
+    element-copy-out-size
+    size-requires
     returns
     add-s
     loop-less
