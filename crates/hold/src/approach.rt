@@ -15,7 +15,7 @@ fn brakes_within(speed: u32, loss: u64, left: usize) -> bool
 }
 
 // The approach point of a block from b, where `from` is one for an earlier block or 0.
-pub fn approach_point(speeds: &[u32], loss: u64, from: usize, b: usize) -> usize
+pub(crate) fn approach_point(speeds: &[u32], loss: u64, from: usize, b: usize) -> usize
     requires { ⌜ (loss ≤ 15552000) × (b ≤ 4096) × (b < length (now speeds)) × (from ≤ b) ⌝ }
     requires { ⌜ (0 < from → entry (now speeds) from ≤ loss * (b - from)) ⌝ }
     requires { ⌜ ((k : ℕ) → k < b → entry (now speeds) k ≤ entry (now speeds) (suc k) + loss) ⌝ }

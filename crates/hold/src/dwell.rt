@@ -7,7 +7,7 @@ ghost use Rattle.rules.specs.Count.{entry, row};
 ghost use Rattle.run.specs.Stops.{Apart, NextStop, dwellBefore};
 
 // The first stop at point i or later, from stop `next` on.
-pub fn stop_from(halts: &[u16; 64], stops: usize, next: usize, i: usize) -> usize
+pub(crate) fn stop_from(halts: &[u16; 64], stops: usize, next: usize, i: usize) -> usize
     requires { ⌜ (stops ≤ 64) × (next ≤ stops) × Apart (row (entry (now halts)) stops) ⌝ }
     requires { ⌜ ((k : ℕ) → k < next → entry (row (entry (now halts)) stops) k < i) ⌝ }
     ensures { λ r. ⌜ NextStop (row (entry (now (halts .entry))) stops) r i ⌝ }
@@ -23,7 +23,7 @@ pub fn stop_from(halts: &[u16; 64], stops: usize, next: usize, i: usize) -> usiz
 }
 
 // The dwell at point i in microseconds, where stop `next` is the first at i or later. The dwell at point 0 does not count.
-pub fn dwell_at<'a>(
+pub(crate) fn dwell_at<'a>(
     halts: &'a [u16; 64],
     dwells: &'a [u16; 64],
     stops: usize,

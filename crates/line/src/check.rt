@@ -32,7 +32,7 @@ fn sized(file: &[u8]) -> bool
     )
 }
 
-pub fn file_refusal(file: &[u8]) -> u8
+pub(crate) fn file_refusal(file: &[u8]) -> u8
     ensures { λ r. ⌜ r ≡ fileRefusal (now (file .entry)) ⌝ }
 {
     let number = structure(file);

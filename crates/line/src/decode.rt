@@ -10,7 +10,7 @@ ghost use lib.ListN.{length};
 ghost use Rattle.rules.specs.File.{trainsAt, limitCount, blockCount, recordEnd, bandCount, stopCount};
 ghost use Rattle.line.specs.Decoded.{IsLine, IsTrain};
 
-pub fn decode_line(file: &[u8]) -> Line
+pub(crate) fn decode_line(file: &[u8]) -> Line
     requires { ⌜ (trainsAt (now file) ≤ length (now file)) × (limitCount (now file) ≤ 64) × (blockCount (now file) ≤ 64) ⌝ }
     ensures { λ r. ⌜ IsLine (now (file .entry)) r ⌝ }
 {
@@ -36,7 +36,7 @@ pub fn decode_line(file: &[u8]) -> Line
     }
 }
 
-pub fn decode_train(file: &[u8], at: usize) -> Train
+pub(crate) fn decode_train(file: &[u8], at: usize) -> Train
     requires { ⌜ (recordEnd (now file) at ≤ length (now file)) × (bandCount (now file) at ≤ 64) × (stopCount (now file) at ≤ 64) ⌝ }
     ensures { λ r. ⌜ IsTrain (now (file .entry)) at r ⌝ }
 {

@@ -15,7 +15,13 @@ ghost use Rattle.line.specs.Sized.{lineNumbers, Sized};
 ghost use Rattle.line.specs.Values.{lineIn};
 
 // Rule 3 of P, L, K, B and T.
-pub fn line_sizes(points: usize, step: usize, limits: usize, blocks: usize, trains: usize) -> bool
+pub(crate) fn line_sizes(
+    points: usize,
+    step: usize,
+    limits: usize,
+    blocks: usize,
+    trains: usize,
+) -> bool
     ensures { λ r. ⌜ r ≡ lineNumbers points step limits blocks trains ⌝ }
 {
     let counts = both(is_within(blocks, 1, 32), is_within(trains, 1, 64));
@@ -70,7 +76,7 @@ fn blocks_kept(line: Line) -> bool
 }
 
 // The first broken rule of 4 to 6, or 0.
-pub fn line_refusal(line: Line) -> u8
+pub(crate) fn line_refusal(line: Line) -> u8
     requires { ⌜ Sized line ⌝ }
     ensures { λ r. ⌜ r ≡ refusal (lineRules (lineIn line)) ⌝ }
 {

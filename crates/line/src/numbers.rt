@@ -14,14 +14,14 @@ fn wide(x: u8) -> u16
     x as u16
 }
 
-pub fn size(x: u16) -> usize
+pub(crate) fn size(x: u16) -> usize
     ensures { λ r. ⌜ (r ≡ x) × (r < 65536) ⌝ }
 {
     x as usize
 }
 
 // The unsigned 16-bit number at a byte place, low byte first.
-pub fn word_at(file: &[u8], at: usize) -> u16
+pub(crate) fn word_at(file: &[u8], at: usize) -> u16
     requires { ⌜ at + 1 < length (now file) ⌝ }
     ensures { λ r. ⌜ (r ≡ word (now (file .entry)) at) × (r < 65536) ⌝ }
 {
@@ -29,7 +29,7 @@ pub fn word_at(file: &[u8], at: usize) -> u16
 }
 
 // The first n of the numbers that stand from a byte place on.
-pub fn words_at(file: &[u8], at: usize, n: usize) -> [u16; 64]
+pub(crate) fn words_at(file: &[u8], at: usize, n: usize) -> [u16; 64]
     requires { ⌜ (n ≤ 64) × (at + 2 * n ≤ length (now file)) ⌝ }
     ensures { λ r. ⌜ row (entry r) n ≡ words (now (file .entry)) at n ⌝ }
 {
@@ -43,21 +43,21 @@ pub fn words_at(file: &[u8], at: usize, n: usize) -> [u16; 64]
 }
 
 // Both tests pass.
-pub fn both(a: bool, b: bool) -> bool
+pub(crate) fn both(a: bool, b: bool) -> bool
     ensures { λ r. ⌜ r ≡ (a and b) ⌝ }
 {
     if a { b } else { false }
 }
 
 // The number of a broken rule, and what the later rules give where it is kept.
-pub fn unless_kept(number: u8, kept: bool, later: u8) -> u8
+pub(crate) fn unless_kept(number: u8, kept: bool, later: u8) -> u8
     ensures { λ r. ⌜ r ≡ cond kept later number ⌝ }
 {
     if kept { later } else { number }
 }
 
 // The lower of two numbers of refusal, of which 0 is none.
-pub fn lower(a: u8, b: u8) -> u8
+pub(crate) fn lower(a: u8, b: u8) -> u8
     ensures { λ r. ⌜ r ≡ lowerOf a b ⌝ }
 {
     if a == 0 {
@@ -69,20 +69,20 @@ pub fn lower(a: u8, b: u8) -> u8
     if a < b { a } else { b }
 }
 
-pub fn is_zero(x: u16) -> bool
+pub(crate) fn is_zero(x: u16) -> bool
     ensures { λ r. ⌜ r ≡ eqb x 0 ⌝ }
 {
     x == 0
 }
 
-pub fn is_within(x: usize, low: usize, high: usize) -> bool
+pub(crate) fn is_within(x: usize, low: usize, high: usize) -> bool
     ensures { λ r. ⌜ r ≡ within low high x ⌝ }
 {
     both(low <= x, x <= high)
 }
 
 // Whether each of the first n numbers lies from `low` to `high`.
-pub fn all_within(numbers: [u16; 64], n: usize, low: usize, high: usize) -> bool
+pub(crate) fn all_within(numbers: [u16; 64], n: usize, low: usize, high: usize) -> bool
     requires { ⌜ n ≤ 64 ⌝ }
     ensures { λ r. ⌜ r ≡ allWithin low high n (entry numbers) ⌝ }
 {
@@ -98,7 +98,13 @@ pub fn all_within(numbers: [u16; 64], n: usize, low: usize, high: usize) -> bool
 }
 
 // Whether each of the first n numbers, with `gap` added, is at most the number `ahead` places on in the others.
-pub fn below_by(gap: usize, n: usize, numbers: [u16; 64], others: [u16; 64], ahead: usize) -> bool
+pub(crate) fn below_by(
+    gap: usize,
+    n: usize,
+    numbers: [u16; 64],
+    others: [u16; 64],
+    ahead: usize,
+) -> bool
     requires { ⌜ (n + ahead ≤ 64) × (gap ≤ 2) ⌝ }
     ensures { λ r. ⌜ r ≡ belowBy gap n (entry numbers) (λ i. entry others (i + ahead)) ⌝ }
 {
@@ -113,7 +119,7 @@ pub fn below_by(gap: usize, n: usize, numbers: [u16; 64], others: [u16; 64], ahe
 }
 
 // Whether of the first n numbers each is at least `gap` more than the one before it.
-pub fn rises_by(gap: usize, n: usize, numbers: [u16; 64]) -> bool
+pub(crate) fn rises_by(gap: usize, n: usize, numbers: [u16; 64]) -> bool
     requires { ⌜ (n ≤ 64) × (gap ≤ 2) ⌝ }
     ensures { λ r. ⌜ r ≡ risesBy gap n (entry numbers) ⌝ }
 {

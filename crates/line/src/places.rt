@@ -9,7 +9,7 @@ ghost use Rattle.rules.specs.File.{trainCountAt, trainCount, recordSize, record
 ghost use Rattle.rules.specs.Refusal.{rule, refusal, whole, nothingAfter};
 
 // The place of T.
-pub fn train_count_at(file: &[u8]) -> usize
+pub(crate) fn train_count_at(file: &[u8]) -> usize
     requires { ⌜ 12 ≤ length (now file) ⌝ }
     ensures { λ r. ⌜ (r ≡ trainCountAt (now (file .entry))) × (r < 1000000) ⌝ }
 {
@@ -17,7 +17,7 @@ pub fn train_count_at(file: &[u8]) -> usize
 }
 
 // The size in bytes of the train record at `at`, whose own sizes are there.
-pub fn record_size(file: &[u8], at: usize) -> usize
+pub(crate) fn record_size(file: &[u8], at: usize) -> usize
     requires { ⌜ at + 8 ≤ length (now file) ⌝ }
     ensures { λ r. ⌜ (r ≡ recordSize (now (file .entry)) at) × (r < 1000000) ⌝ }
 {
@@ -25,7 +25,7 @@ pub fn record_size(file: &[u8], at: usize) -> usize
 }
 
 // Rules 1 and 2: the number of the first that is broken, or 0.
-pub fn structure(file: &[u8]) -> u8
+pub(crate) fn structure(file: &[u8]) -> u8
     ensures { λ r. ⌜ r ≡ refusal (rule 1 (whole (now (file .entry))) ∷ rule 2 (nothingAfter (now (file .entry))) ∷ []) ⌝ }
 {
     if file.len() < 12 {
@@ -56,7 +56,7 @@ pub fn structure(file: &[u8]) -> u8
 }
 
 // The place of train record k.
-pub fn record_at(file: &[u8], k: usize) -> usize
+pub(crate) fn record_at(file: &[u8], k: usize) -> usize
     requires { ⌜ (announcedEnd (now file) ≤ length (now file)) × (k < trainCount (now file)) ⌝ }
     ensures { λ r. ⌜ (r ≡ recordAt (now (file .entry)) k) × (recordEnd (now (file .entry)) r ≤ length (now (file .entry))) ⌝ }
 {

@@ -14,7 +14,7 @@ ghost use Rattle.line.specs.Sized.{trainNumbers, Sized, Counted};
 ghost use Rattle.line.specs.Values.{lineIn, trainIn};
 
 // Rule 3 of a class, a length, A and S.
-pub fn train_sizes(class: usize, length: usize, bands: usize, stops: usize) -> bool
+pub(crate) fn train_sizes(class: usize, length: usize, bands: usize, stops: usize) -> bool
     ensures { λ r. ⌜ r ≡ trainNumbers class length bands stops ⌝ }
 {
     let counts = both(is_within(bands, 1, 8), is_within(stops, 0, 32));
@@ -65,7 +65,7 @@ fn last_block_kept(line: Line, train: Train) -> bool
 }
 
 // The first broken rule of 7 to 9, or 0.
-pub fn train_refusal(line: Line, train: Train) -> u8
+pub(crate) fn train_refusal(line: Line, train: Train) -> u8
     requires { ⌜ Sized line × Counted train ⌝ }
     ensures { λ r. ⌜ r ≡ refusal (oneTrain (lineIn line) (trainIn train)) ⌝ }
 {

@@ -31,7 +31,7 @@ fn train_sized(file: &[u8], at: usize) -> bool
 }
 
 // Rule 3 of every train.
-pub fn trains_sized(file: &[u8]) -> bool
+pub(crate) fn trains_sized(file: &[u8]) -> bool
     requires { ⌜ announcedEnd (now file) ≤ length (now file) ⌝ }
     ensures { λ r. ⌜ r ≡ everyTrain (now (file .entry)) trainSizes ⌝ }
 {
@@ -51,7 +51,7 @@ pub fn trains_sized(file: &[u8]) -> bool
 }
 
 // The lowest broken rule of 7 to 9 of any train, or 0.
-pub fn trains_refusal(file: &[u8], line: Line) -> u8
+pub(crate) fn trains_refusal(file: &[u8], line: Line) -> u8
     requires { ⌜ (announcedEnd (now file) ≤ length (now file)) × (everyTrain (now file) trainSizes ≡ true) × Sized line × IsLine (now file) line ⌝ }
     ensures { λ r. ⌜ r ≡ refusal (firstTrains (now (file .entry)) (trainCount (now (file .entry)))) ⌝ }
 {

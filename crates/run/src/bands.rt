@@ -21,7 +21,7 @@ pub struct Bands {
     pub mosts: [u32; 8],
 }
 
-pub fn bands_of(line: Line, train: Train) -> Bands
+pub(crate) fn bands_of(line: Line, train: Train) -> Bands
     requires { ⌜ Admitted (lineIn line) (trainIn train) ⌝ }
     ensures { λ r. ⌜ IsBands (lineIn line) (trainIn train) r ⌝ }
 {
@@ -44,7 +44,7 @@ pub fn bands_of(line: Line, train: Train) -> Bands
 }
 
 // The traction step: the greatest of the bands' parts, each the lesser of w with the gain and the most.
-pub fn traction_step(
+pub(crate) fn traction_step(
     count: usize,
     gains: &[u32; 8],
     mosts: &[u32; 8],

@@ -35,7 +35,7 @@ fn cap_of(stopped: bool, v: u32) -> SquaredSpeed
     squared_of(v)
 }
 
-pub fn write_forward(line: Line, train: Train, speeds: &mut [u32])
+pub(crate) fn write_forward(line: Line, train: Train, speeds: &mut [u32])
     requires { ⌜ Admitted (lineIn line) (trainIn train) ⌝ }
     requires { ⌜ line .points ≤ length (now speeds) ⌝ }
     ensures { λ _. ⌜ now (speeds .exit) ≡ row (forward (lineIn line) (trainIn train)) (line .points) ++ drop (line .points) (now (speeds .entry)) ⌝ }

@@ -4,45 +4,45 @@ ghost use mathlib.Core.Path.{_≡_};
 ghost use Prim.Native.Nat.{_≤_, _<_, min, max};
 ghost use Rattle.rules.specs.Run.{squared, change};
 
-pub fn wide(x: u16) -> u32
+pub(crate) fn wide(x: u16) -> u32
     ensures { λ r. ⌜ r ≡ x ⌝ }
 {
     x as u32
 }
 
-pub fn wide64(x: u16) -> u64
+pub(crate) fn wide64(x: u16) -> u64
     ensures { λ r. ⌜ (r ≡ x) × (r < 65536) ⌝ }
 {
     x as u64
 }
 
-pub fn narrow(x: u64) -> u32
+pub(crate) fn narrow(x: u64) -> u32
     requires { ⌜ x < 4294967296 ⌝ }
     ensures { λ r. ⌜ r ≡ x ⌝ }
 {
     x as u32
 }
 
-pub fn size(x: u16) -> usize
+pub(crate) fn size(x: u16) -> usize
     ensures { λ r. ⌜ (r ≡ x) × (r < 65536) ⌝ }
 {
     x as usize
 }
 
-pub fn lesser(a: u32, b: u32) -> u32
+pub(crate) fn lesser(a: u32, b: u32) -> u32
     ensures { λ r. ⌜ r ≡ min a b ⌝ }
 {
     if a < b { a } else { b }
 }
 
-pub fn greater(a: u32, b: u32) -> u32
+pub(crate) fn greater(a: u32, b: u32) -> u32
     ensures { λ r. ⌜ r ≡ max a b ⌝ }
 {
     if a < b { b } else { a }
 }
 
 // The square of 100 times a speed in km/h.
-pub fn squared_of(v: u32) -> SquaredSpeed
+pub(crate) fn squared_of(v: u32) -> SquaredSpeed
     requires { ⌜ v ≤ 300 ⌝ }
     ensures { λ r. ⌜ r .0 ≡ squared v ⌝ }
 {
@@ -52,7 +52,7 @@ pub fn squared_of(v: u32) -> SquaredSpeed
 }
 
 // The squared speed gained or lost over a step in m at a rate in cm/s².
-pub fn change_over(rate: u32, step: u32) -> u32
+pub(crate) fn change_over(rate: u32, step: u32) -> u32
     requires { ⌜ (rate ≤ 200) × (step ≤ 100) ⌝ }
     ensures { λ r. ⌜ r ≡ change rate step ⌝ }
 {

@@ -6,7 +6,7 @@ ghost use Prim.Native.Nat.{_≤_};
 ghost use Rattle.rules.specs.Time.{root as rootOf};
 
 // Digit by digit: each trial bit stays where the square keeps within w. The count of leading zeros gives the first.
-pub fn root(w: SquaredSpeed) -> Speed
+pub(crate) fn root(w: SquaredSpeed) -> Speed
     ensures { λ r. ⌜ (r .0 ≡ rootOf (w .0)) × (r .0 ≤ 65535) ⌝ }
 {
     let square = w.0;

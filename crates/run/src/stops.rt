@@ -6,7 +6,7 @@ ghost use Prim.Native.Nat.{_+_, _≤_};
 ghost use Rattle.run.specs.Stops.{stopHere};
 
 // Whether the stop with index `next` is at point i.
-pub fn stop_here(halts: &[u16; 64], count: usize, next: usize, i: usize) -> bool
+pub(crate) fn stop_here(halts: &[u16; 64], count: usize, next: usize, i: usize) -> bool
     requires { ⌜ count ≤ 64 ⌝ }
     ensures { λ r. ⌜ r ≡ stopHere (now (halts .entry)) count next i ⌝ }
 {
@@ -17,7 +17,7 @@ pub fn stop_here(halts: &[u16; 64], count: usize, next: usize, i: usize) -> bool
 }
 
 // The index of the stop ahead, once a point is passed.
-pub fn after_point(next: usize, stopped: bool) -> usize
+pub(crate) fn after_point(next: usize, stopped: bool) -> usize
     requires { ⌜ next ≤ 64 ⌝ }
     ensures { λ r. ⌜ r ≡ cond stopped (next + 1) next ⌝ }
 {

@@ -11,7 +11,7 @@ ghost use Rattle.rules.specs.Run.{lastTop, backwardSweep};
 ghost use Rattle.line.specs.Values.{trainIn};
 
 // The last band's top, in km/h.
-pub fn last_top(train: Train) -> u32
+pub(crate) fn last_top(train: Train) -> u32
     requires { ⌜ (1 ≤ train .bands) × (train .bands ≤ 64) ⌝ }
     ensures { λ r. ⌜ r ≡ lastTop (trainIn train) ⌝ }
 {
@@ -20,7 +20,7 @@ pub fn last_top(train: Train) -> u32
 }
 
 // Lowers each entry to at most the next plus the loss, from the last point back to the first.
-pub fn write_backward(points: usize, loss: u32, speeds: &mut [u32])
+pub(crate) fn write_backward(points: usize, loss: u32, speeds: &mut [u32])
     requires { ⌜ (1 ≤ points) × (points ≤ length (now speeds)) × (loss ≤ 15552000) ⌝ }
     requires { ⌜ ((k : ℕ) → k < points → entry (now speeds) k ≤ 900000000) ⌝ }
     ensures { λ _. ⌜ now (speeds .exit) ≡ row (backwardSweep (entry (now (speeds .entry))) loss points) points ++ drop points (now (speeds .entry)) ⌝ }

@@ -64,7 +64,7 @@ fn pass_point<'a>(
 }
 
 // Fills `times` with the arrivals of the run that `speeds` holds.
-pub fn write_times(line: Line, train: Train, speeds: &[u32], times: &mut [u64])
+pub(crate) fn write_times(line: Line, train: Train, speeds: &[u32], times: &mut [u64])
     requires { ⌜ Admitted (lineIn line) (trainIn train) ⌝ }
     requires { ⌜ (line .points ≤ length (now speeds)) × (line .points ≤ length (now times)) ⌝ }
     requires { ⌜ ((k : ℕ) → k < line .points → entry (now speeds) k ≡ entry (runRow (lineIn line) (trainIn train)) k) ⌝ }

@@ -37,7 +37,7 @@ fn next_begun(froms: &[u16; 64], count: usize, at: usize, c: usize) -> usize
 }
 
 // The lowest of the top and the limits from `tail` to `head`.
-pub fn lowest_limit(limits: &[u16; 64], top: u32, tail: usize, head: usize) -> u32
+pub(crate) fn lowest_limit(limits: &[u16; 64], top: u32, tail: usize, head: usize) -> u32
     requires { ⌜ head < 64 ⌝ }
     ensures { λ r. ⌜ r ≡ lowestFrom (entry (now (limits .entry))) top tail (head + 1 - tail) ⌝ }
 {
@@ -51,7 +51,7 @@ pub fn lowest_limit(limits: &[u16; 64], top: u32, tail: usize, head: usize) -> u
 }
 
 // The limits that the train is under with its head at point i, from those at the point before. `n` is its length in cells.
-pub fn under_at(
+pub(crate) fn under_at(
     froms: &[u16; 64],
     limits: &[u16; 64],
     count: usize,
