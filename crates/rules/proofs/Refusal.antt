@@ -32,14 +32,6 @@ abbrev number : List Rule → ℕ → ℕ
 number rules i = getD rules i noRule .number
 
 module _ (r : Rule) (rs : List Rule) where
-  pub past-kept : r .kept ≡ true → firstBroken (r ∷ rs) ≡ firstBroken rs
-  unfolding firstBroken
-  past-kept e = rw e
-
-  pub at-broken : r .kept ≡ false → firstBroken (r ∷ rs) ≡ some (r .number)
-  unfolding firstBroken
-  at-broken e = rw e
-
   -- one rule more in front, kept or broken
   kept-first : r .kept ≡ true → (o : Option ℕ) → IsFirstBroken rs o → IsFirstBroken (r ∷ rs) o
   kept-first e o f =
@@ -285,14 +277,6 @@ module _ (file : List ℕ) where
   run-by-buffers k speeds times z =
       append-kept (trainRules file k) (rule 11 (buffersLong (lineOf file) speeds times) ∷ []) (train-rising k) z
       ∙ refusal-cons 11 (buffersLong (lineOf file) speeds times) [] ∙ rw refusal-none
-
-  pub run-short-speeds : (k speeds times : ℕ) → trainRefusal file k ≡ 0 → speeds < lineOf file .points → runRefusal file k speeds times ≡ 11
-  unfolding buffersLong _and_
-  run-short-speeds k speeds times z h = rw (run-by-buffers k speeds times z, lt-leb (lineOf file .points) speeds h)
-
-  pub run-short-times : (k speeds times : ℕ) → trainRefusal file k ≡ 0 → lineOf file .points ≤ speeds → times < lineOf file .points → runRefusal file k speeds times ≡ 11
-  unfolding buffersLong _and_
-  run-short-times k speeds times z g h = rw (run-by-buffers k speeds times z, le-leb (lineOf file .points) speeds g, lt-leb (lineOf file .points) times h)
 
   pub run-long : (k speeds times : ℕ) → trainRefusal file k ≡ 0 → lineOf file .points ≤ speeds → lineOf file .points ≤ times → runRefusal file k speeds times ≡ 0
   unfolding buffersLong _and_

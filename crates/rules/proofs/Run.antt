@@ -112,9 +112,6 @@ module _ (l : Line) (t : Train) where
         (λ i h. let g : i < l .points = omega (arith, r .permitted .whole) in
         le-antisymm (run-is .greatest speeds (r .permitted) i g) (r .greatest (runRow l t) run-permitted i g))
 
-    pub run-most : (i : ℕ) → i < l .points → entry (runRow l t) i ≤ 900000000
-    run-most i h = le-trans (run-permitted .capped i h) (cap-most l t a i)
-
     -- ---- the run stands still at stops alone
 
     forward-least : (i : ℕ) → listed i (t .stops) ≡ false → 2592 ≤ forward l t i

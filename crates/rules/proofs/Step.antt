@@ -124,7 +124,3 @@ module _ (l : Line) (t : Train) (a : Admitted l t) where
   step-keeps w h =
       let g : w ≤ squared (entry (t .tops) (length (t .tops) - 1)) = rw last-top at h in
       omega (arith, step-each w (length (t .tops) - 1) (omega arith))
-
-  pub step-most : (w : ℕ) → tractionStep l t w ≤ 900000000
-  unfolding squared
-  step-most w = let (k, h, e) = step-is w .attained in omega (arith, squared-most (a .rule7 .top-most k h))

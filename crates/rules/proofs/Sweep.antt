@@ -6,14 +6,6 @@ use native.Mathlib.Omega.{arith}
 use Rattle.rules.specs.Run.{forwardSweep, backwardBefore, backwardSweep}
 
 module _ (caps step : ℕ → ℕ) where
-  pub forward-first : forwardSweep caps step 0 ≡ caps 0
-  unfolding forwardSweep
-  forward-first = refl
-
-  pub forward-next : (i j : ℕ) → j ≡ suc i → forwardSweep caps step j ≡ min (caps j) (step (forwardSweep caps step i))
-  unfolding forwardSweep
-  forward-next i j e = rw e
-
   pub forward-le : (i : ℕ) → forwardSweep caps step i ≤ caps i
   unfolding forwardSweep
   forward-le zero = le-refl _
