@@ -1,5 +1,5 @@
 -- Tests and rows one number more, as loops go through them. Assumes nothing.
-use Prim.Native.Nat.{ℕ, zero, suc, _+_, _-_, _≤_, _<_}
+use Prim.Native.Nat.{ℕ, zero, suc, _+_, _-_, _≤_, _<_, max}
 use mathlib.Core.Bool.{Bool, true, false}
 use mathlib.Core.List.{List, [], _∷_}
 use mathlib.Core.Logic.{⊎-elim}
@@ -10,7 +10,7 @@ use native.Mathlib.Omega.{arith}
 use lib.Dec.{leb}
 use lib.ListN.{length}
 use borrow.Author.Tests.{le-leb, lt-leb}
-use Rattle.rules.specs.Count.{_and_, entry, rowFrom, row, every, within, allWithin, belowBy, risesBy}
+use Rattle.rules.specs.Count.{_and_, entry, rowFrom, row, greatestBelow, every, within, allWithin, belowBy, risesBy}
 use Rattle.rules.proofs.Count.{every-agree, length-row, entry-row}
 
 and-false : (b : Bool) → (b and false) ≡ false
@@ -43,6 +43,17 @@ module _ (test : ℕ → Bool) where
   -- a loop that has come to the end has tried every number
   pub every-done : {i n : ℕ} → i ≤ n → n ≤ i → every i test ≡ true → every n test ≡ true
   every-done {i} {n} l m all = ap (λ (k : ℕ). every k test) (le-antisymm m l) ∙ all
+
+-- ---- the greatest
+
+module _ (f : ℕ → ℕ) where
+  pub greatest-none : 0 ≡ greatestBelow 0 f
+  unfolding greatestBelow
+  greatest-none = refl
+
+  pub greatest-more : (i : ℕ) {m w r : ℕ} → m ≡ greatestBelow i f → w ≡ f i → r ≡ max m w → r ≡ greatestBelow (i + 1) f
+  unfolding greatestBelow
+  greatest-more i e g h = rw add-one (h ∙ ap₂ max e g)
 
 -- ---- rows
 

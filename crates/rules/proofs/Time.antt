@@ -42,13 +42,13 @@ dwell-at (s ∷ ss) (d ∷ ds) r e (suc k) h =
     let g : entry ss k ≡ s → ⊥ = λ q. omega (arith, r 0 (omega arith), rises-far (entry (s ∷ ss)) (suc (length ss)) (λ j m. omega (arith, r j m)) 1 (suc k) (omega arith) h) in
     rw (ne-eqb (entry ss k) s g) (dwell-at ss ds (λ j m. r (suc j) (omega arith)) (suc-inj e) k (omega arith))
 
-dwell-none : (ss ds : List ℕ) (i : ℕ) → ((k : ℕ) → k < length ss → entry ss k ≡ i → ⊥) → dwellFrom ss ds i ≡ 0
+pub dwell-none : (ss ds : List ℕ) (i : ℕ) → ((k : ℕ) → k < length ss → entry ss k ≡ i → ⊥) → dwellFrom ss ds i ≡ 0
 unfolding dwellFrom
 dwell-none [] ds i h = refl
 dwell-none (s ∷ ss) [] i h = refl
 dwell-none (s ∷ ss) (d ∷ ds) i h = rw (ne-eqb i s (λ e. h 0 (omega arith) (sym e))) (dwell-none ss ds i (λ k g. h (suc k) (omega arith)))
 
-cond-zero : (b : Bool) → _≡_ {A = ℕ} (cond b 0 0) 0
+pub cond-zero : (b : Bool) → _≡_ {A = ℕ} (cond b 0 0) 0
 cond-zero true = refl
 cond-zero false = refl
 

@@ -15,6 +15,7 @@ use Rattle.rules.specs.Run.{listed}
 use Rattle.rules.specs.Time.{dwellFrom, dwell}
 use Rattle.rules.proofs.Count.{rises-far, length-row, entry-row}
 use Rattle.rules.proofs.Cap.{listed-there, listed-only}
+use Rattle.rules.proofs.Time.{dwell-none, cond-zero}
 use Rattle.run.specs.Stops.{Apart, NextStop, stopHere, dwellBefore}
 
 -- ---- the next stop
@@ -60,12 +61,6 @@ dwell-at (x ∷ ss) (d ∷ ds) e (suc s) i before h q =
     rw (ne-eqb i x (λ z. omega (arith, before 0 (omega arith))))
     (dwell-at ss ds (suc-inj e) s i (λ k g. before (suc k) (omega arith)) (omega arith) q)
 
-dwell-none : (ss ds : List ℕ) (i : ℕ) → ((k : ℕ) → k < length ss → entry ss k ≡ i → ⊥) → dwellFrom ss ds i ≡ 0
-unfolding dwellFrom
-dwell-none [] ds i none = refl
-dwell-none (x ∷ ss) [] i none = refl
-dwell-none (x ∷ ss) (d ∷ ds) i none = rw (ne-eqb i x (λ e. none 0 (omega arith) (sym e))) (dwell-none ss ds i (λ k g. none (suc k) (omega arith)))
-
 dwell-first : (ss ds : List ℕ) {i : ℕ} → i ≡ 0 → dwellBefore ss ds i ≡ 0
 unfolding dwellBefore
 dwell-first ss ds {i} e = rw (eq-eqb i 0 e)
@@ -76,11 +71,7 @@ dwell-later ss ds {i} h e = rw (ne-eqb i 0 h, e)
 
 dwell-nowhere : (ss ds : List ℕ) (i : ℕ) → ((k : ℕ) → k < length ss → entry ss k ≡ i → ⊥) → dwellBefore ss ds i ≡ 0
 unfolding dwellBefore
-dwell-nowhere ss ds i none = rw (dwell-none ss ds i none) (go (eqb i 0))
-  where
-    go : (b : Bool) → _≡_ {A = ℕ} (cond b 0 0) 0
-    go true = refl
-    go false = refl
+dwell-nowhere ss ds i none = rw (dwell-none ss ds i none) (cond-zero (eqb i 0))
 
 -- the rules' dwell, at every point but the last
 pub dwell-before : (l : Line) (t : Train) (i : ℕ) → suc i < l .points → dwellBefore (t .stops) (t .dwells) i ≡ dwell l t i

@@ -1,9 +1,8 @@
 -- Laws of a train's changes of squared speed, of its decoded bands and of the traction step by them. Assumes nothing.
-use Prim.Native.Nat.{ℕ, zero, suc, _+_, _-_, _≤_, _<_, min, max}
+use Prim.Native.Nat.{ℕ, zero, suc, _+_, _-_, _≤_, _<_, min}
 use mathlib.Core.List.{List, [], _∷_}
 use mathlib.Core.Path.{_≡_, refl, ap, _∙_}
 use native.Mathlib.Nat.{le-antisymm, mul-le-mul, mul-le-mul-right}
-use native.Mathlib.Numerals.{add-one}
 use native.Mathlib.Omega.{arith}
 use lib.ListN.{length}
 use Rattle.rules.specs.Count.{entry, row, greatestBelow}
@@ -64,14 +63,6 @@ module _ (l : Line) (t : decoded.Train) (a : Admitted l (trainIn t)) where
   top-most k h = rw entry-row at (a .rule7 .top-most k (rw length-row h))
 
 -- ---- the traction step
-
-pub greatest-none : (f : ℕ → ℕ) → greatestBelow 0 f ≡ 0
-unfolding greatestBelow
-greatest-none f = refl
-
-pub greatest-more : (f : ℕ → ℕ) (n : ℕ) → greatestBelow (n + 1) f ≡ max (greatestBelow n f) (f n)
-unfolding greatestBelow
-greatest-more f n = rw add-one
 
 module _ (l : Line) (t : Train) (a : Admitted l t) (b : Bands) (h : IsBands l t b) where
   pub bands-bounded : BandBounds (b .count) (b .gains) (b .mosts)

@@ -1,8 +1,8 @@
 use Prim.Native.Nat.{_+_, _-_, _≤_, min}
-use mathlib.Core.Path.{_≡_, sym}
+use mathlib.Core.Path.{_≡_}
 use native.Mathlib.Omega.{arith}
 use Rattle.rules.specs.Count.{entry, greatestBelow}
-use Rattle.run.proofs.Traction.{greatest-none, greatest-more}
+use Rattle.rules.proofs.Loops.{greatest-none, greatest-more}
 use borrow.Author.Needs.{needs}
 use Rattle.run.proofs.bands.traction_step.Statement.{statement}
 use Rattle.run.proofs.bands.traction_step.Tie as tie
@@ -14,7 +14,7 @@ abbrev μ-loop : tie.MeasureT-loop
 μ-loop count gains mosts w best₀ k₀ best k = count - k
 
 loop-holds : tie.Need-loop-holds Inv-loop μ-loop
-loop-holds c = (search needs, sym (greatest-none _))
+loop-holds c = (search needs, greatest-none _)
 
 mul-lesser : tie.Need-mul-lesser Inv-loop μ-loop
 mul-lesser c = search needs
@@ -44,10 +44,10 @@ loop-less : tie.Need-loop-less Inv-loop μ-loop
 loop-less c = search needs
 
 loop-again : tie.Need-loop-again Inv-loop μ-loop
-loop-again c =
-    let a = c .before .before .before .before .before .before .before .args in
-    let o = c .before .before .before .before .before .before .loop in
-    (search needs, omega (arith, greatest-more (λ j. min (a .w .0 + entry (a .gains .now) j) (entry (a .mosts .now) j)) (o .k)))
+loop-again c = (
+  search needs,
+  greatest-more _ _ (c .before .before .before .before .before .before .loop .inv .1) (c .before .lesser .ensures) (c .greater .ensures),
+)
 
 returns : tie.Need-returns Inv-loop μ-loop
 returns c =

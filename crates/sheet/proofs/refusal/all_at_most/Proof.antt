@@ -7,7 +7,8 @@ use lib.Dec.{leb}
 use borrow.Author.Needs.{needs}
 use borrow.Author.Tests.{le-leb, lt-leb}
 use Rattle.rules.specs.Count.{entry, every}
-use Rattle.sheet.proofs.Loops.{at-end, every-none, every-next, every-broken}
+use Rattle.rules.proofs.Loops.{every-none, every-more, every-broken}
+use Rattle.sheet.proofs.Loops.{at-end}
 use Rattle.sheet.proofs.refusal.all_at_most.Statement.{statement}
 use Rattle.sheet.proofs.refusal.all_at_most.Tie as tie
 
@@ -36,7 +37,7 @@ loop-less : tie.Need-loop-less Inv-loop μ-loop
 loop-less c = search needs
 
 loop-again : tie.Need-loop-again Inv-loop μ-loop
-loop-again c = (search needs, every-next _ _ (c .before .before .loop .inv .1) (le-leb _ _ (c .if1 .left)))
+loop-again c = (search needs, every-more _ _ (c .before .before .loop .inv .1) (le-leb _ _ (c .if1 .left)))
 
 returns-2 : tie.Need-returns-2 Inv-loop μ-loop
 returns-2 c =

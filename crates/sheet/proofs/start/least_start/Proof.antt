@@ -5,7 +5,8 @@ use native.Mathlib.Omega.{arith}
 use borrow.Author.Needs.{needs}
 use Rattle.rules.specs.Count.{entry, greatestBelow}
 use Rattle.rules.specs.Sheet.{leastStart}
-use Rattle.sheet.proofs.Loops.{at-end, greatest-none, greatest-next}
+use Rattle.rules.proofs.Loops.{greatest-none, greatest-more}
+use Rattle.sheet.proofs.Loops.{at-end}
 use Rattle.sheet.proofs.start.least_start.Statement.{statement}
 use Rattle.sheet.proofs.start.least_start.Tie as tie
 
@@ -45,7 +46,7 @@ loop-less c = search needs
 loop-again : tie.Need-loop-again Inv-loop μ-loop
 loop-again c = (
   search needs,
-  greatest-next _ _ (c .before .before .before .before .before .loop .inv .1) (c .before .wait .ensures) (c .greater .ensures),
+  greatest-more _ _ (c .before .before .before .before .before .loop .inv .1) (c .before .wait .ensures) (c .greater .ensures),
 )
 
 returns : tie.Need-returns Inv-loop μ-loop
