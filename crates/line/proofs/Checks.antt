@@ -10,7 +10,7 @@ use Rattle.rules.specs.Count.{_and_}
 use Rattle.rules.specs.File.{pointCount, stepLength, limitCount, blockCount, trainCount, trainsAt, announcedEnd}
 use Rattle.rules.specs.Line as rules
 use Rattle.rules.specs.Line.{lineOf}
-use Rattle.rules.specs.Refusal.{Rule, rule, refusal, whole, nothingAfter, lineSizes, trainSizes, everyTrain, limitPointsRule, limitsRule, blocksRule, fileRules, pairRules}
+use Rattle.rules.specs.Refusal.{Rule, rule, refusal, whole, nothingAfter, everyTrain, lineNumbers, lineSizes, trainSizes, sizesRule, pairSizes, pairRules}
 use Rattle.rules.specs.Calls.{fileRefusal}
 use Rattle.rules.proofs.Count.{and-left, and-right, length-row}
 use Rattle.rules.proofs.File.{length-words, trains-within}
@@ -19,8 +19,8 @@ use Rattle.rules.proofs.Rules.{rule-3-line, rule-3-train}
 use Rattle.line.specs.declared.decoded.Line.{Line}
 use Rattle.line.specs.declared.decoded.Train.{Train}
 use Rattle.line.specs.Values.{lineIn, trainIn}
-use Rattle.line.specs.Decoded.{IsLine, sizesRule, pairSizes, lineRules, oneTrain, firstTrains}
-use Rattle.line.specs.Sized.{lineNumbers, Sized, Counted}
+use Rattle.line.specs.Decoded.{IsLine, lineRules, oneTrain, firstTrains}
+use Rattle.line.specs.Sized.{Sized, Counted}
 
 module _ (file : List ℕ) where
   -- what comes behind rules 1 and 2, and behind 3

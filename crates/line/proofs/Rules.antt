@@ -8,13 +8,12 @@ use Rattle.rules.specs.Count.{_and_, entry, row, allWithin, belowBy, risesBy, c
 use Rattle.rules.specs.File.{classNumber, lengthNumber, bandCount, stopCount}
 use Rattle.rules.specs.Line.{trainAt}
 use Rattle.rules.specs.Run.{trainCells}
-use Rattle.rules.specs.Refusal.{lineSizes, trainSizes, limitPointsRule, blocksRule, lastBlockRule}
+use Rattle.rules.specs.Refusal.{lineNumbers, trainNumbers, lineSizes, trainSizes, limitPointsRule, blocksRule, lastBlockRule}
 use Rattle.rules.proofs.Count.{length-row, entry-row}
 use Rattle.rules.proofs.File.{length-words}
 use Rattle.rules.proofs.Loops.{within-row, rises-row, below-row, below-next-row}
 use Rattle.line.specs.declared.decoded.Line.{Line}
 use Rattle.line.specs.declared.decoded.Train.{Train}
-use Rattle.line.specs.Sized.{lineNumbers, trainNumbers}
 use Rattle.line.specs.Values.{lineIn, trainIn}
 
 pub line-numbers : (l : Line) (trains : ℕ) → lineSizes (lineIn l) trains ≡ lineNumbers (l .points) (l .step) (l .limits) (l .blocks) trains

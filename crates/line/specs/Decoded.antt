@@ -1,13 +1,12 @@
 -- What is decoded from a file: the line and the train that the rules read from it.
 use Prim.Native.Nat.{ℕ}
-use mathlib.Core.Bool.{Bool}
 use mathlib.Core.List.{List, [], _∷_}
 use mathlib.Core.Path.{_≡_}
-use Rattle.rules.specs.Count.{_and_, every}
-use Rattle.rules.specs.File.{trainCount, limitCount, blockCount, bandCount, stopCount}
+use Rattle.rules.specs.Count.{every}
+use Rattle.rules.specs.File.{limitCount, blockCount, bandCount, stopCount}
 use Rattle.rules.specs.Line as rules
 use Rattle.rules.specs.Line.{lineOf, trainAt, trainOf}
-use Rattle.rules.specs.Refusal.{Rule, rule, lineSizes, trainSizes, everyTrain, limitPointsRule, limitsRule, blocksRule, bandsRule, stopsRule, lastBlockRule}
+use Rattle.rules.specs.Refusal.{Rule, rule, limitPointsRule, limitsRule, blocksRule, bandsRule, stopsRule, lastBlockRule}
 use Rattle.line.specs.declared.decoded.Line.{Line}
 use Rattle.line.specs.declared.decoded.Train.{Train}
 use Rattle.line.specs.Values.{lineIn, trainIn}
@@ -21,14 +20,6 @@ pub record IsTrain (file : List ℕ) (at : ℕ) (t : Train) : Type 0 where
   pub same : trainIn t ≡ trainAt file at
   pub bands : t .bands ≡ bandCount file at
   pub stops : t .stops ≡ stopCount file at
-
--- rule 3 of a file
-abbrev pub sizesRule : List ℕ → Bool
-sizesRule file = lineSizes (lineOf file) (trainCount file) and everyTrain file trainSizes
-
--- rule 3 of a line and one train
-abbrev pub pairSizes : rules.Line → rules.Train → Bool
-pairSizes l t = lineSizes l 1 and trainSizes t
 
 -- rules 4 to 6 of a line
 abbrev pub lineRules : rules.Line → List Rule

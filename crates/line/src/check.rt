@@ -14,7 +14,7 @@ ghost use Prim.Native.Nat.{_≤_};
 ghost use lib.ListN.{length};
 ghost use Rattle.rules.specs.Calls.{fileRefusal};
 ghost use Rattle.rules.specs.File.{trainsAt, announcedEnd};
-ghost use Rattle.line.specs.Decoded.{sizesRule};
+ghost use Rattle.rules.specs.Refusal.{sizesRule};
 
 // Rule 3.
 fn sized(file: &[u8]) -> bool

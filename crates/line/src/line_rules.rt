@@ -9,9 +9,9 @@ use crate::numbers::rises_by;
 use crate::numbers::size;
 use crate::numbers::unless_kept;
 ghost use mathlib.Core.Path.{_≡_};
-ghost use Rattle.rules.specs.Refusal.{refusal, limitPointsRule, limitsRule, blocksRule};
+ghost use Rattle.rules.specs.Refusal.{refusal, lineNumbers, limitPointsRule, limitsRule, blocksRule};
 ghost use Rattle.line.specs.Decoded.{lineRules};
-ghost use Rattle.line.specs.Sized.{lineNumbers, Sized};
+ghost use Rattle.line.specs.Sized.{Sized};
 ghost use Rattle.line.specs.Values.{lineIn};
 
 // Rule 3 of P, L, K, B and T.

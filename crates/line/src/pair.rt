@@ -8,8 +8,7 @@ use crate::numbers::size;
 use crate::train_rules::train_refusal;
 use crate::train_rules::train_sizes;
 ghost use mathlib.Core.Path.{_≡_};
-ghost use Rattle.rules.specs.Refusal.{refusal, pairRules};
-ghost use Rattle.line.specs.Decoded.{pairSizes};
+ghost use Rattle.rules.specs.Refusal.{refusal, pairSizes, pairRules};
 ghost use Rattle.line.specs.Values.{lineIn, trainIn};
 
 // Rule 3.

@@ -8,9 +8,9 @@ use crate::numbers::rises_by;
 use crate::numbers::size;
 use crate::numbers::unless_kept;
 ghost use mathlib.Core.Path.{_≡_};
-ghost use Rattle.rules.specs.Refusal.{refusal, bandsRule, stopsRule, lastBlockRule};
+ghost use Rattle.rules.specs.Refusal.{refusal, trainNumbers, bandsRule, stopsRule, lastBlockRule};
 ghost use Rattle.line.specs.Decoded.{oneTrain};
-ghost use Rattle.line.specs.Sized.{trainNumbers, Sized, Counted};
+ghost use Rattle.line.specs.Sized.{Sized, Counted};
 ghost use Rattle.line.specs.Values.{lineIn, trainIn};
 
 // Rule 3 of a class, a length, A and S.

@@ -15,7 +15,7 @@ use borrow.Author.Tests.{le-leb, lt-leb, leb-true, ltb-true, lt-ltb, le-ltb, eqb
 use Rattle.rules.specs.Count.{_and_, every}
 use Rattle.rules.specs.File.{trainCount, announcedEnd}
 use Rattle.rules.specs.Line.{lineOf, trainOf}
-use Rattle.rules.specs.Refusal.{Rule, rule, firstBroken, numberOr0, refusal, lowerOf, whole, nothingAfter, lineSizes, trainSizes, limitPointsRule, limitsRule, blocksRule, bandsRule, stopsRule, lastBlockRule, everyTrain, fileRules, trainThere, trainRules, buffersLong, runRules}
+use Rattle.rules.specs.Refusal.{Rule, rule, firstBroken, numberOr0, refusal, lowerOf, whole, nothingAfter, trainSizes, sizesRule, bandsRule, stopsRule, lastBlockRule, fileRules, trainThere, trainRules, buffersLong, runRules}
 use Rattle.rules.specs.Calls.{fileRefusal, trainRefusal, runRefusal}
 use Rattle.rules.specs.Admitted.{Rule3Line, Admitted}
 use Rattle.rules.specs.Meaning.{noRule, IsFirstBroken, IsLowestBroken}
@@ -293,7 +293,7 @@ module _ (file : List ℕ) where
   -- ---- an accepted file
 
   module _ (ok : fileRefusal file ≡ 0) where
-    pub sizes-kept : (lineSizes (lineOf file) (trainCount file) and everyTrain file trainSizes) ≡ true
+    pub sizes-kept : sizesRule file ≡ true
     sizes-kept = file-lowest .none-broken ok 2 (omega arith)
 
     pub line-sizes : Rule3Line (lineOf file) (trainCount file)

@@ -40,6 +40,10 @@ lowerOf a b = cond (eqb a 0) b (cond (eqb b 0) a (min a b))
 
 -- ---- the rules of the file
 
+-- a test of a train passes for every train of the file
+abbrev pub everyTrain : List ℕ → (Train → Bool) → Bool
+everyTrain file test = every (trainCount file) (λ k. test (trainOf file k))
+
 -- 1. The file does not end before something that its sizes, taken without their limits, announce.
 unfoldable pub whole : List ℕ → Bool
 whole file = leb (announcedEnd file) (length file)
@@ -48,21 +52,38 @@ whole file = leb (announcedEnd file) (length file)
 unfoldable pub nothingAfter : List ℕ → Bool
 nothingAfter file = leb (length file) (announcedEnd file)
 
--- 3. P, L, K, B, T, each class, length, A and S are within their limits.
-unfoldable pub lineSizes : Line → ℕ → Bool
-lineSizes l trains =
-    within 3 4096 (l .points)
-    and within 1 100 (l .step)
-    and within 1 64 (length (l .limits))
-    and within 1 32 (length (l .blockStarts))
+-- 3. P, L, K, B, T, each class, length, A and S are within their limits. First P, L, K, B and T as numbers.
+abbrev pub lineNumbers : ℕ → ℕ → ℕ → ℕ → ℕ → Bool
+lineNumbers points step limits blocks trains =
+    within 3 4096 points
+    and within 1 100 step
+    and within 1 64 limits
+    and within 1 32 blocks
     and within 1 64 trains
 
+-- 3, of a class, a length, A and S as numbers.
+abbrev pub trainNumbers : ℕ → ℕ → ℕ → ℕ → Bool
+trainNumbers class trainLength bands stops =
+    within 0 2 class
+    and within 1 1000 trainLength
+    and within 1 8 bands
+    and within 0 32 stops
+
+-- 3, of a line and T.
+unfoldable pub lineSizes : Line → ℕ → Bool
+lineSizes l trains = lineNumbers (l .points) (l .step) (length (l .limits)) (length (l .blockStarts)) trains
+
+-- 3, of a train.
 unfoldable pub trainSizes : Train → Bool
-trainSizes t =
-    within 0 2 (t .class)
-    and within 1 1000 (t .trainLength)
-    and within 1 8 (length (t .tops))
-    and within 0 32 (length (t .stops))
+trainSizes t = trainNumbers (t .class) (t .trainLength) (length (t .tops)) (length (t .stops))
+
+-- 3, of a file.
+abbrev pub sizesRule : List ℕ → Bool
+sizesRule file = lineSizes (lineOf file) (trainCount file) and everyTrain file trainSizes
+
+-- 3, of a line with one train.
+abbrev pub pairSizes : Line → Train → Bool
+pairSizes l t = lineSizes l 1 and trainSizes t
 
 -- 4. Limit points begin at 0, strictly rise and do not exceed P - 2.
 unfoldable pub limitPointsRule : Line → Bool
@@ -101,17 +122,13 @@ stopsRule l t =
 unfoldable pub lastBlockRule : Line → Train → Bool
 lastBlockRule l t = leb (entry (l .blockEnds) (length (l .blockEnds) - 1) + trainCells l t) (l .points - 1)
 
--- a test of a train passes for every train of the file
-abbrev pub everyTrain : List ℕ → (Train → Bool) → Bool
-everyTrain file test = every (trainCount file) (λ k. test (trainOf file k))
-
 -- The rules of the file in checking order. Each goes over the whole file before the next, so a lower number anywhere in the file wins.
 -- A difference such as P - 2 is cut off at 0 where P is too small; then rule 3 is broken and comes first.
 abbrev pub fileRules : List ℕ → List Rule
 fileRules file =
     rule 1 (whole file)
     ∷ rule 2 (nothingAfter file)
-    ∷ rule 3 (lineSizes (lineOf file) (trainCount file) and everyTrain file trainSizes)
+    ∷ rule 3 (sizesRule file)
     ∷ rule 4 (limitPointsRule (lineOf file))
     ∷ rule 5 (limitsRule (lineOf file))
     ∷ rule 6 (blocksRule (lineOf file))
@@ -123,7 +140,7 @@ fileRules file =
 -- the rules of a line and one train, from 3 on
 abbrev pub pairRules : Line → Train → List Rule
 pairRules l t =
-    rule 3 (lineSizes l 1 and trainSizes t)
+    rule 3 (pairSizes l t)
     ∷ rule 4 (limitPointsRule l)
     ∷ rule 5 (limitsRule l)
     ∷ rule 6 (blocksRule l)

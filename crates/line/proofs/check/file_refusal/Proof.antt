@@ -1,6 +1,5 @@
-use Rattle.line.specs.Decoded.{sizesRule}
 use Rattle.rules.proofs.Refusal.{structureRules}
-use Rattle.rules.specs.Refusal.{refusal}
+use Rattle.rules.specs.Refusal.{refusal, sizesRule}
 use mathlib.Core.Bool.{true}
 use borrow.Author.Tests.{not-true, not-false}
 use mathlib.Core.Path.{_≡_, sym, _∙_}
