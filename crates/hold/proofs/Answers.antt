@@ -10,12 +10,12 @@ use lib.ListN.{length}
 use borrow.Author.Tests.{eqb-true, eqb-false, eq-eqb, ne-eqb, leb-true}
 use Rattle.rules.specs.Count.{_and_, entry, row}
 use Rattle.rules.specs.Line.{Line, Train, lineOf, trainOf}
-use Rattle.rules.specs.Hold.{Hold, holdOf}
+use Rattle.rules.specs.Hold.{Hold, emptyHold, holdOf}
 use Rattle.rules.specs.Refusal.{refusal, pairRules, buffersLong}
 use Rattle.rules.specs.Run.{runRow, runAt}
 use Rattle.rules.specs.Time.{arrival, arrivals, runTimes}
 use Rattle.rules.specs.Admitted.{Parallel, Admitted}
-use Rattle.rules.specs.Calls.{Holding, emptyHold, held, written, runRefusal}
+use Rattle.rules.specs.Calls.{Holding, held, written, runRefusal}
 use Rattle.rules.specs.Meaning.{IsWritten}
 use Rattle.rules.proofs.Count.{and-left, and-right, length-row}
 use Rattle.rules.proofs.Calls.{written-is}

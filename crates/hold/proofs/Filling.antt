@@ -6,11 +6,10 @@ use native.Mathlib.Decide.{decLt}
 use native.Mathlib.Nat.{mul-le-mul-left, le-refl, le-trans}
 use native.Mathlib.Numerals.{add-one}
 use native.Mathlib.Omega.{arith}
-use lib.ListN.{length, set, List·getD-eq-default}
+use lib.ListN.{length, set, length-replicate, getD-replicate}
 use Rattle.rules.specs.Admitted.{Admitted}
-use Rattle.rules.specs.Calls.{emptyHold}
 use Rattle.rules.specs.Count.{entry, row}
-use Rattle.rules.specs.Hold.{Hold, approachPoint, holdBegin, holdEnd, holdWith, holdOf}
+use Rattle.rules.specs.Hold.{Hold, emptyHold, approachPoint, holdBegin, holdEnd, holdWith, holdOf}
 use Rattle.rules.specs.Line.{Line, Train}
 use Rattle.rules.specs.Run.{brakingLoss, trainCells, runRow}
 use Rattle.rules.specs.Time.{arrival, departure, runTimes}
@@ -39,12 +38,11 @@ same-hold {x} {y} p q r =
     let of : ℕ → List ℕ → List ℕ → Hold = λ n b e. record { blocks = n; begins = b; ends = e } in
     ap₂ (λ (n : ℕ) (b : List ℕ). of n b (x .ends)) p q ∙ ap (of (y .blocks) (y .begins)) r
 
-zeros : (k : ℕ) → entry (emptyHold .begins) k ≡ 0
-zeros k = go (decLt k 32)
-  where
-    go : Dec (k < 32) → entry (row (λ i. 0) 32) k ≡ 0
-    go (yes h) = entry-row (λ i. 0) 32 k h
-    go (no h) = List·getD-eq-default (row (λ i. 0) 32) 0 (rw length-row (omega arith))
+places : length (emptyHold .begins) ≡ 32
+places = length-replicate {A = ℕ} 32 0
+
+zeros : (k : ℕ) → k < 32 → entry (emptyHold .begins) k ≡ 0
+zeros k h = getD-replicate {A = ℕ} 32 k 0 0 h
 
 module _ (l : Line) (t : Train) (a : Admitted l t) where
   pub holds-first : {h : Hold} {n : ℕ} → h ≡ record { blocks = n; begins = emptyHold .begins; ends = emptyHold .ends } → n ≡ length (l .blockStarts) → Holds l t h 0 0 0
@@ -64,7 +62,7 @@ module _ (l : Line) (t : Train) (a : Admitted l t) where
   unfolding holdWith
   holds-all {h} {point} {next} {j} r m =
       let e : j ≡ length (l .blockStarts) = omega (arith, r .blocks) in
-      same-hold (r .count) (rw (sym e) (places-filled (r .begins) (length-row _ 32) zeros (few e))) (rw (sym e) (places-filled (r .ends) (length-row _ 32) zeros (few e)))
+      same-hold (r .count) (rw (sym e) (places-filled (r .begins) places zeros (few e))) (rw (sym e) (places-filled (r .ends) places zeros (few e)))
     where
       few : j ≡ length (l .blockStarts) → j ≤ 32
       few e = omega (arith, a .rule3Line .blocks-most)
@@ -143,8 +141,8 @@ module _ (l : Line) (t : Train) (a : Admitted l t) where
           slow = λ c g z. le-trans (slow-at z) (mul-le-mul-left (brakingLoss l t) (omega (arith, g j (omega arith))));
           stops = n .there;
           passed = n .passed;
-          begins = fill-up (r .begins) (omega arith) (add-one j) (rw length-row (omega (arith, a .rule3Line .blocks-most))) b;
-          ends = fill-up (r .ends) (omega arith) (add-one j) (rw length-row (omega (arith, a .rule3Line .blocks-most))) e;
+          begins = fill-up (r .begins) (omega arith) (add-one j) (rw places (omega (arith, a .rule3Line .blocks-most))) b;
+          ends = fill-up (r .ends) (omega arith) (add-one j) (rw places (omega (arith, a .rule3Line .blocks-most))) e;
         }
       where
         reached : p ≤ entry (l .blockStarts) j

@@ -3,8 +3,8 @@ use Prim.Native.Nat.{ℕ}
 use mathlib.Core.Bool.{cond}
 use lib.Dec.{eqb}
 use Rattle.rules.specs.Line.{Line, Train}
-use Rattle.rules.specs.Hold.{holdOf}
-use Rattle.rules.specs.Calls.{Holding, emptyHold}
+use Rattle.rules.specs.Hold.{emptyHold, holdOf}
+use Rattle.rules.specs.Calls.{Holding}
 use Rattle.run.specs.Calls.{pairRefusal}
 use Rattle.sheet.specs.Values.{asHold}
 use Rattle.hold.specs.declared.HoldAnswer.{HoldAnswer}

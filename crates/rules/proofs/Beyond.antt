@@ -7,11 +7,11 @@ use mathlib.Core.Path.{_≡_, refl, ap, ap₂, _∙_}
 use native.Mathlib.Omega.{arith}
 use lib.Dec.{leb, ltb, eqb}
 use lib.ListN.{length, getD}
-use Rattle.rules.specs.Hold.{Hold}
+use Rattle.rules.specs.Hold.{Hold, emptyHold}
 use Rattle.rules.specs.Sheet.{Sheet, end, freeTime, leastStart, blockNamed, released, sheetAfter}
 use Rattle.rules.specs.Refusal.{firstBroken, sheetRule, holdRule, addingRules}
 use Rattle.rules.specs.Calls.{accepted, addition, added}
-use Rattle.rules.specs.Demand.{SameWithin, noHold, answers, leftBy}
+use Rattle.rules.specs.Demand.{SameWithin, answers, leftBy}
 use Rattle.rules.proofs.Count.{every-agree, greatest-agree, first-agree}
 use Rattle.rules.proofs.Sheet.{after-is, either-way}
 
@@ -97,7 +97,7 @@ unaltered-one s h b l =
 
 pub unread-list :
     (s : Sheet) (calls others : List Hold) → length others ≡ length calls →
-    ((i : ℕ) → i < length calls → SameWithin (s .blocks) (getD calls i noHold) (getD others i noHold)) →
+    ((i : ℕ) → i < length calls → SameWithin (s .blocks) (getD calls i emptyHold) (getD others i emptyHold)) →
     (answers s others ≡ answers s calls) × (leftBy s others ≡ leftBy s calls)
 unfolding answers leftBy
 unread-list s [] [] q same = (refl, refl)

@@ -8,11 +8,11 @@ use native.Mathlib.Nat.{add-zero, zero-add, le-of-suc-le-suc}
 use native.Mathlib.Omega.{arith}
 use lib.ListN.{length, getD, take}
 use Rattle.rules.specs.Count.{entry}
-use Rattle.rules.specs.Hold.{Hold}
+use Rattle.rules.specs.Hold.{Hold, emptyHold}
 use Rattle.rules.specs.Sheet.{Sheet, begin, end, freeTime, fresh, leastStart, blockNamed, sheetAfter}
 use Rattle.rules.specs.Refusal.{rule, firstBroken, countRule, roomRule, holdRule, addingRules}
 use Rattle.rules.specs.Calls.{Opening, Answer, accepted, refused, added, opened}
-use Rattle.rules.specs.Demand.{answers, leftBy, starts, trains, noHold, refusalOf, WithoutOverlap, ThirdDemand}
+use Rattle.rules.specs.Demand.{answers, leftBy, starts, trains, refusalOf, WithoutOverlap, ThirdDemand}
 use Rattle.rules.specs.Meaning.{Clears}
 use Rattle.rules.proofs.Count.{within-means}
 use Rattle.rules.proofs.Sheet.{rule-12, start-is, after-is, either-way, all-kept, Sound, sound-added, fresh-free, sound-fresh}
@@ -34,10 +34,10 @@ sound-left s ok (h ∷ calls) = sound-left (added s h .sheet) (sound-added s ok 
 abbrev NumbersFrom : Sheet → List Hold → List Answer → Type 0
 NumbersFrom s calls got =
     (i : ℕ) → i < length calls →
-    refusalOf (getD got i (refused 0)) ≡ judged (s .blocks) (s .trains + length (starts (take i got))) (getD calls i noHold)
+    refusalOf (getD got i (refused 0)) ≡ judged (s .blocks) (s .trains + length (starts (take i got))) (getD calls i emptyHold)
 
 abbrev AllClear : Sheet → List Hold → List ℕ → Type 0
-AllClear s hs ts = (j : ℕ) → j < length hs → Clears s (getD hs j noHold) (entry ts j)
+AllClear s hs ts = (j : ℕ) → j < length hs → Clears s (getD hs j emptyHold) (entry ts j)
 
 abbrev NoneEarlierFrom : Sheet → List Hold → List ℕ → Type 0
 NoneEarlierFrom s hs ts =
@@ -89,7 +89,7 @@ module _ (s : Sheet) (ok : Sound s) (h : Hold) (calls : List Hold) (got : List A
       let m : s .trains + suc (length (starts (take i got))) ≡ s .trains + 1 + length (starts (take i got)) = omega arith in
       rw m (r .numbers i (le-of-suc-le-suc l))
 
-  later : (j b : ℕ) → j < length (trains calls got) → b < s .blocks → start + end h b ≤ entry (starts got) j + begin (getD (trains calls got) j noHold) b
+  later : (j b : ℕ) → j < length (trains calls got) → b < s .blocks → start + end h b ≤ entry (starts got) j + begin (getD (trains calls got) j emptyHold) b
   unfolding sheetAfter
   later j b l k = omega (arith, freed b k, r .clear j l b k)
 

@@ -117,12 +117,12 @@ places-beyond n f j h = go (decLt j 32)
     go (no l) = List·getD-eq-default (row (λ j. cond (ltb j n) (f j) 0) 32) 0 (rw length-row (omega arith))
 
 -- places filled up to n, with 0 from there on
-pub places-filled : {f : ℕ → ℕ} {n : ℕ} {s₀ s : List ℕ} → Filled f 0 n s₀ s → length s₀ ≡ 32 → ((k : ℕ) → entry s₀ k ≡ 0) → n ≤ 32 → s ≡ blockPlaces n f
-places-filled {f} {n} {s₀} {s} r long zeros m = ext-getD 0 s (blockPlaces n f) (r .long ∙ long ∙ sym (places-long n f)) (λ k g. at k (decLt k n))
+pub places-filled : {f : ℕ → ℕ} {n : ℕ} {s₀ s : List ℕ} → Filled f 0 n s₀ s → length s₀ ≡ 32 → ((k : ℕ) → k < 32 → entry s₀ k ≡ 0) → n ≤ 32 → s ≡ blockPlaces n f
+places-filled {f} {n} {s₀} {s} r long zeros m = ext-getD 0 s (blockPlaces n f) (r .long ∙ long ∙ sym (places-long n f)) (λ k g. at k (omega (arith, r .long)) (decLt k n))
   where
-    at : (k : ℕ) → Dec (k < n) → entry s k ≡ entry (blockPlaces n f) k
-    at k (yes h) = r .inside k (omega arith) h ∙ sym (places-within n f m k h)
-    at k (no h) = r .over k (omega arith) ∙ zeros k ∙ sym (places-beyond n f k (omega arith))
+    at : (k : ℕ) → k < 32 → Dec (k < n) → entry s k ≡ entry (blockPlaces n f) k
+    at k g (yes h) = r .inside k (omega arith) h ∙ sym (places-within n f m k h)
+    at k g (no h) = r .over k (omega arith) ∙ zeros k g ∙ sym (places-beyond n f k (omega arith))
 
 pub hold-is : (l : Line) (t : Train) (speeds : List ℕ) → length (l .blockStarts) ≤ 32 → IsHold l t speeds (holdWith l t speeds)
 unfolding holdWith holdBegin holdEnd

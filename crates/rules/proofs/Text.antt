@@ -10,11 +10,11 @@ use lib.ListN.{length, getD, take, length-take}
 use borrow.Author.Tests.{le-leb, lt-leb, eq-eqb, ne-eqb}
 use Rattle.rules.specs.File.{trainCount}
 use Rattle.rules.specs.Line.{lineOf, trainOf}
-use Rattle.rules.specs.Hold.{holdOf}
+use Rattle.rules.specs.Hold.{emptyHold, holdOf}
 use Rattle.rules.specs.Sheet.{fresh}
 use Rattle.rules.specs.Refusal.{firstBroken}
 use Rattle.rules.specs.Calls.{Answer, accepted, refused, fileRefusal}
-use Rattle.rules.specs.Demand.{starts, noHold, refusalOf, LeastStarts}
+use Rattle.rules.specs.Demand.{starts, refusalOf, LeastStarts}
 use Rattle.rules.specs.Text.{header, refusalText, joined, holdsFrom, fileAnswers, lineOfTrain, sheetText, programText}
 use Rattle.rules.proofs.File.{AreBytes}
 use Rattle.rules.proofs.Refusal.{line-sizes}
@@ -29,7 +29,7 @@ unfolding holdsFrom
 length-holds file k zero = refl
 length-holds file k (suc n) = ap suc (length-holds file (suc k) n)
 
-pub hold-at : (file : List ℕ) (k n i : ℕ) → i < n → getD (holdsFrom file k n) i noHold ≡ holdOf (lineOf file) (trainOf file (k + i))
+pub hold-at : (file : List ℕ) (k n i : ℕ) → i < n → getD (holdsFrom file k n) i emptyHold ≡ holdOf (lineOf file) (trainOf file (k + i))
 unfolding holdsFrom
 hold-at file k zero i h = absurd (omega arith)
 hold-at file k (suc n) zero h = rw add-zero
@@ -50,7 +50,7 @@ file-answers file b ok k h =
     let blocks : ℕ = length (lineOf file .blockStarts) in
     let calls = holdsFrom file 0 (trainCount file) in
     let d : LeastStarts blocks (fresh blocks) calls = third-demand blocks (sizes .blocks-least) (sizes .blocks-most) calls in
-    let at : getD calls k noHold ≡ holdOf (lineOf file) (trainOf file k) = rw zero-add at (hold-at file 0 (trainCount file) k h) in
+    let at : getD calls k emptyHold ≡ holdOf (lineOf file) (trainOf file k) = rw zero-add at (hold-at file 0 (trainCount file) k h) in
     d .numbers k (rw length-holds h)
     ∙ rw (
       at,

@@ -5,12 +5,11 @@ use mathlib.Core.List.{List, [], _∷_, _++_}
 use mathlib.Core.Option.{Option, none, some}
 use lib.Dec.{eqb}
 use lib.ListN.{length, take, drop}
-use Rattle.rules.specs.Count.{row}
 use Rattle.rules.specs.File.{recordBytes}
 use Rattle.rules.specs.Line.{lineOf, trainOf}
 use Rattle.rules.specs.Run.{runRow}
 use Rattle.rules.specs.Time.{runTimes}
-use Rattle.rules.specs.Hold.{Hold, holdOf}
+use Rattle.rules.specs.Hold.{Hold, emptyHold, holdOf}
 use Rattle.rules.specs.Sheet.{Sheet, fresh, leastStart, blockNamed, sheetAfter}
 use Rattle.rules.specs.Refusal.{refusal, firstBroken, fileRules, trainRules, runRules, countRule, addingRules}
 
@@ -48,9 +47,6 @@ timesAfter file k speeds times =
 pub record Holding : Type 0 where
   pub number : ℕ
   pub hold : Hold
-
-abbrev pub emptyHold : Hold
-emptyHold = record { blocks = 0; begins = row (λ i. 0) 32; ends = row (λ i. 0) 32 }
 
 unfoldable pub held : List ℕ → ℕ → ℕ → ℕ → Holding
 held file k speeds times =

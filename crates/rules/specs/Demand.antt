@@ -7,7 +7,7 @@ use mathlib.Core.Option.{Option, none, some}
 use mathlib.Core.Path.{_≡_}
 use lib.ListN.{length, getD, take}
 use Rattle.rules.specs.Count.{entry}
-use Rattle.rules.specs.Hold.{Hold}
+use Rattle.rules.specs.Hold.{Hold, emptyHold}
 use Rattle.rules.specs.Sheet.{Sheet, begin, end, freeTime}
 use Rattle.rules.specs.Refusal.{rule, firstBroken, sheetRule, roomRule, holdRule}
 use Rattle.rules.specs.Calls.{Answer, accepted, refused, added}
@@ -34,10 +34,6 @@ trains (h ∷ calls) [] = []
 trains (h ∷ calls) (accepted start block ∷ got) = h ∷ trains calls got
 trains (h ∷ calls) (refused n ∷ got) = trains calls got
 
--- what stands past the end of a list of records
-abbrev pub noHold : Hold
-noHold = record { blocks = 0; begins = []; ends = [] }
-
 -- the number of a refusal; an accepted call has none
 abbrev pub refusalOf : Answer → Option ℕ
 refusalOf (accepted start block) = none
@@ -49,14 +45,14 @@ abbrev pub RightNumbers : ℕ → List Hold → List Answer → Type 0
 RightNumbers n calls got =
     (i : ℕ) → i < length calls →
     refusalOf (getD got i (refused 0)) ≡
-    firstBroken (rule 12 true ∷ rule 13 (roomRule (length (starts (take i got)))) ∷ rule 14 (holdRule n (getD calls i noHold)) ∷ [])
+    firstBroken (rule 12 true ∷ rule 13 (roomRule (length (starts (take i got)))) ∷ rule 14 (holdRule n (getD calls i emptyHold)) ∷ [])
 
 -- Starts are without overlap if, in every block within the block count n, each train's start plus beginning is at least the start
 -- plus end of every train before it.
 abbrev pub WithoutOverlap : ℕ → List Hold → List ℕ → Type 0
 WithoutOverlap n hs ts =
     (i j b : ℕ) → i < j → j < length hs → b < n →
-    entry ts i + end (getD hs i noHold) b ≤ entry ts j + begin (getD hs j noHold) b
+    entry ts i + end (getD hs i emptyHold) b ≤ entry ts j + begin (getD hs j emptyHold) b
 
 -- A rival sequence gives each of these trains a whole number of 0 or more as its start, and is without overlap. Each start is at most
 -- the rival's start for the same train.
@@ -83,7 +79,7 @@ pub record LeastStarts (n : ℕ) (s : Sheet) (calls : List Hold) : Type 0 where
   -- places beyond the block count are neither read nor altered
   pub unread :
       (others : List Hold) → length others ≡ length calls →
-      ((i : ℕ) → i < length calls → SameWithin n (getD calls i noHold) (getD others i noHold)) →
+      ((i : ℕ) → i < length calls → SameWithin n (getD calls i emptyHold) (getD others i emptyHold)) →
       (answers s others ≡ answers s calls) × (leftBy s others ≡ leftBy s calls)
   pub unaltered : (b : ℕ) → n ≤ b → freeTime (leftBy s calls) b ≡ freeTime s b
 

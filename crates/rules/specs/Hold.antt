@@ -3,7 +3,7 @@ use Prim.Native.Nat.{ℕ, suc, _+_, _-_, _*_}
 use mathlib.Core.Bool.{cond}
 use mathlib.Core.List.{List}
 use lib.Dec.{leb, ltb}
-use lib.ListN.{length}
+use lib.ListN.{length, replicate}
 use Rattle.rules.specs.Count.{entry, row, lastBelow}
 use Rattle.rules.specs.Line.{Line, Train}
 use Rattle.rules.specs.Run.{brakingLoss, trainCells, runRow}
@@ -15,6 +15,10 @@ pub record Hold : Type 0 where
   pub blocks : ℕ
   pub begins : List ℕ
   pub ends : List ℕ
+
+-- a record of no blocks: 0 at every place
+abbrev pub emptyHold : Hold
+emptyHold = record { blocks = 0; begins = replicate 32 0; ends = replicate 32 0 }
 
 -- The approach point of a block from b: the greatest i at most b whose squared speed is at most G times (b - i), or 0 if there is none.
 unfoldable pub approachPoint : List ℕ → ℕ → ℕ → ℕ

@@ -1,10 +1,8 @@
-use Rattle.rules.specs.Count.{rowFrom}
 use borrow.Author.Needs.{needs}
 use Rattle.hold.proofs.empty_record.Statement.{statement}
 use Rattle.hold.proofs.empty_record.Tie as tie
 
 returns : tie.Need-returns
-unfolding rowFrom
 returns c = search needs
 
 pub empty-record-spec : {M : Type 1} → statement M
