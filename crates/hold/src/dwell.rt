@@ -1,6 +1,6 @@
 // The dwell at a point, by a running index of the stops.
-use crate::numbers::size;
-use crate::numbers::wide64;
+use widths::size;
+use widths::wide64;
 ghost use mathlib.Core.Path.{_≡_};
 ghost use Prim.Native.Nat.{ℕ, _+_, _<_, _≤_};
 ghost use Rattle.rules.specs.Count.{entry, row};

@@ -1,15 +1,14 @@
 // The hold of a train: for each block when its hold begins and ends.
 mod approach;
 mod dwell;
-mod numbers;
 
 use approach::approach_point;
 use dwell::dwell_at;
 use dwell::stop_from;
 use line::Line;
 use line::Train;
-use numbers::size;
 use sheet::HoldRecord;
+use widths::size;
 ghost use mathlib.Core.Path.{_≡_};
 ghost use Prim.Native.Nat.{ℕ, _+_, _*_, _<_, _≤_};
 ghost use lib.ListN.{length};
@@ -55,8 +54,8 @@ fn hold_record(line: Line, train: Train, speeds: &[u32], times: &[u64]) -> HoldR
     requires { ⌜ ((k : ℕ) → k < line .points → entry (now times) k ≡ entry (runTimes (lineIn line) (trainIn train)) k) ⌝ }
     ensures { λ r. ⌜ asHold r ≡ holdOf (lineIn line) (trainIn train) ⌝ }
 {
-    let loss = run::braking_loss(line, train);
-    let cells = run::train_cells(line, train);
+    let loss = line::braking_loss(line, train);
+    let cells = line::train_cells(line, train);
     let clearing = clearing_time(line);
     let mut hold = empty_record(line.blocks as u64);
     let mut point = 0;

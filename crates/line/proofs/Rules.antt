@@ -4,7 +4,7 @@ use mathlib.Core.List.{List}
 use mathlib.Core.Path.{_≡_}
 use native.Mathlib.Omega.{arith}
 use lib.Dec.{leb, eqb}
-use Rattle.rules.specs.Count.{_and_, entry, row, allWithin, belowBy, risesBy, ceilDiv}
+use Rattle.rules.specs.Count.{_and_, entry, row, allWithin, belowBy, risesBy}
 use Rattle.rules.specs.File.{classNumber, lengthNumber, bandCount, stopCount}
 use Rattle.rules.specs.Line.{trainAt}
 use Rattle.rules.specs.Run.{trainCells}
@@ -48,8 +48,8 @@ block-numbers l h =
     rw (below-row, below-next-row, within-row, first)
 
 pub last-block-numbers : (l : Line) (t : Train) → 1 ≤ l .blocks →
-    lastBlockRule (lineIn l) (trainIn t) ≡ leb (entry (l .ends) (l .blocks - 1) + ceilDiv (t .length) (l .step)) (l .points - 1)
-unfolding lastBlockRule trainCells
+    lastBlockRule (lineIn l) (trainIn t) ≡ leb (entry (l .ends) (l .blocks - 1) + trainCells (lineIn l) (trainIn t)) (l .points - 1)
+unfolding lastBlockRule
 last-block-numbers l t h =
     let last : entry (row (entry (l .ends)) (l .blocks)) (l .blocks - 1) ≡ entry (l .ends) (l .blocks - 1) = entry-row (entry (l .ends)) (l .blocks) (l .blocks - 1) (omega arith) in
     rw (length-row, last)

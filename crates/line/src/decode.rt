@@ -2,9 +2,9 @@
 use crate::class::TrainClass;
 use crate::decoded::Line;
 use crate::decoded::Train;
-use crate::numbers::size;
 use crate::numbers::word_at;
 use crate::numbers::words_at;
+use widths::size;
 ghost use Prim.Native.Nat.{_≤_};
 ghost use lib.ListN.{length};
 ghost use Rattle.rules.specs.File.{trainsAt, limitCount, blockCount, recordEnd, bandCount, stopCount};

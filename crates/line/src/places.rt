@@ -1,6 +1,6 @@
 // Where a file's numbers stand, and whether the file has the length that its sizes announce.
-use crate::numbers::size;
 use crate::numbers::word_at;
+use widths::size;
 ghost use mathlib.Core.Path.{_≡_};
 ghost use mathlib.Core.List.{[], _∷_};
 ghost use Prim.Native.Nat.{_+_, _<_, _≤_};

@@ -1,12 +1,13 @@
 // Rules 3, 7, 8 and 9, about a train.
 use crate::decoded::Line;
 use crate::decoded::Train;
+use crate::motion::train_cells;
 use crate::numbers::all_within;
 use crate::numbers::both;
 use crate::numbers::is_within;
 use crate::numbers::rises_by;
-use crate::numbers::size;
 use crate::numbers::unless_kept;
+use widths::size;
 ghost use mathlib.Core.Path.{_≡_};
 ghost use Rattle.rules.specs.Refusal.{refusal, trainNumbers, bandsRule, stopsRule, lastBlockRule};
 ghost use Rattle.line.specs.Decoded.{oneTrain};
@@ -59,8 +60,7 @@ fn last_block_kept(line: Line, train: Train) -> bool
 {
     let last = line.blocks - 1;
     let end = size(line.ends[last]);
-    let step = size(line.step);
-    let cells = (size(train.length) + (step - 1)) / step;
+    let cells = train_cells(line, train);
     end + cells <= size(line.points) - 1
 }
 

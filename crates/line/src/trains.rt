@@ -2,12 +2,12 @@
 use crate::decode::decode_train;
 use crate::decoded::Line;
 use crate::numbers::lower;
-use crate::numbers::size;
 use crate::numbers::word_at;
 use crate::places::record_size;
 use crate::places::train_count_at;
 use crate::train_rules::train_refusal;
 use crate::train_rules::train_sizes;
+use widths::size;
 ghost use mathlib.Core.Bool.{true};
 ghost use mathlib.Core.Path.{_≡_};
 ghost use Prim.Native.Nat.{_+_, _≤_};

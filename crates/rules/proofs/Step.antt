@@ -38,6 +38,12 @@ rate-least (suc zero) h = omega arith
 rate-least (suc (suc zero)) h = omega arith
 rate-least (suc (suc (suc n))) h = absurd (omega arith)
 
+pub practice-most : (class : ℕ) → practiceRate class ≤ 60
+practice-most zero = omega arith
+practice-most (suc zero) = omega arith
+practice-most (suc (suc zero)) = omega arith
+practice-most (suc (suc (suc n))) = omega arith
+
 pub loss-is : (l : Line) (t : Train) → brakingLoss l t ≡ entry practiceRates (t .class) * 2592 * l .step
 unfolding brakingLoss change
 loss-is l t = refl

@@ -11,7 +11,7 @@ use Rattle.rules.specs.Run.{squared, change, brakingLoss, lastOr, tractionStep}
 use Rattle.rules.specs.Admitted.{Admitted}
 use Rattle.rules.specs.Meaning.{bandPart}
 use Rattle.rules.proofs.Count.{at-most-greatest, greatest-at-most, length-row, entry-row}
-use Rattle.rules.proofs.Step.{squared-most, step-is}
+use Rattle.rules.proofs.Step.{practice-most, squared-most, step-is}
 use Rattle.line.specs.Values.{trainIn}
 use Rattle.line.specs.declared.decoded.Train as decoded
 use Rattle.run.specs.declared.bands.Bands.{Bands}
@@ -22,12 +22,6 @@ use Rattle.run.specs.Traction.{IsBands, BandBounds}
 pub change-most : {rate L : ℕ} → rate ≤ 200 → L ≤ 100 → change rate L ≤ 51840000
 unfolding change
 change-most h k = mul-le-mul (mul-le-mul-right 2592 h) k
-
-pub practice-most : (class : ℕ) → practiceRate class ≤ 60
-practice-most zero = omega arith
-practice-most (suc zero) = omega arith
-practice-most (suc (suc zero)) = omega arith
-practice-most (suc (suc (suc n))) = omega arith
 
 pub loss-most : (l : Line) (t : Train) → Admitted l t → brakingLoss l t ≤ 15552000
 unfolding brakingLoss change

@@ -1,9 +1,7 @@
 // The forward sweep: each squared speed at most its cap and the traction step from the one before, in one pass with no row of caps.
 use crate::bands::bands_of;
 use crate::bands::traction_step;
-use crate::motion::train_cells;
 use crate::numbers::lesser;
-use crate::numbers::size;
 use crate::numbers::squared_of;
 use crate::speed::SquaredSpeed;
 use crate::stops::after_point;
@@ -14,6 +12,7 @@ use crate::walk::lowest_limit;
 use crate::walk::under_at;
 use line::Line;
 use line::Train;
+use widths::size;
 ghost use mathlib.Core.Bool.{cond};
 ghost use mathlib.Core.List.{_++_};
 ghost use mathlib.Core.Path.{_≡_};
@@ -44,7 +43,7 @@ pub(crate) fn write_forward(line: Line, train: Train, speeds: &mut [u32])
     let froms = line.froms;
     let limits = line.speeds;
     let halts = train.halts;
-    let n = train_cells(line, train);
+    let n = line::train_cells(line, train);
     let top = last_top(train);
     let bands = bands_of(line, train);
     let gains = bands.gains;

@@ -1,7 +1,6 @@
 // The run of a train: its squared speeds and its arrivals.
 mod bands;
 mod forward;
-mod motion;
 mod numbers;
 mod root;
 mod speed;
@@ -13,12 +12,10 @@ mod walk;
 use forward::write_forward;
 use line::Line;
 use line::Train;
-pub use motion::braking_loss;
-pub use motion::train_cells;
 use numbers::narrow;
-use numbers::size;
 use sweep::write_backward;
 use times::write_times;
+use widths::size;
 ghost use mathlib.Core.Path.{_≡_};
 ghost use Prim.Native.Nat.{_≤_};
 ghost use lib.ListN.{length, take};
@@ -38,7 +35,7 @@ fn write_run(line: Line, train: Train, speeds: &mut [u32], times: &mut [u64])
     ensures { λ _. ⌜ (now (speeds .exit) ≡ written (now (speeds .entry)) 0 (runRow (lineIn line) (trainIn train))) × (now (times .exit) ≡ written (now (times .entry)) 0 (runTimes (lineIn line) (trainIn train))) ⌝ }
 {
     write_forward(line, train, speeds);
-    let loss = narrow(braking_loss(line, train));
+    let loss = narrow(line::braking_loss(line, train));
     write_backward(size(line.points), loss, speeds);
     write_times(line, train, speeds, times);
 }

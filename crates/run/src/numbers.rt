@@ -1,32 +1,14 @@
-// Numbers of a line and a train widened, compared, and turned into squared speeds.
+// Numbers narrowed, compared, and turned into squared speeds.
 use crate::speed::SquaredSpeed;
 ghost use mathlib.Core.Path.{_≡_};
 ghost use Prim.Native.Nat.{_≤_, _<_, min, max};
 ghost use Rattle.rules.specs.Run.{squared, change};
-
-pub(crate) fn wide(x: u16) -> u32
-    ensures { λ r. ⌜ r ≡ x ⌝ }
-{
-    x as u32
-}
-
-pub(crate) fn wide64(x: u16) -> u64
-    ensures { λ r. ⌜ (r ≡ x) × (r < 65536) ⌝ }
-{
-    x as u64
-}
 
 pub(crate) fn narrow(x: u64) -> u32
     requires { ⌜ x < 4294967296 ⌝ }
     ensures { λ r. ⌜ r ≡ x ⌝ }
 {
     x as u32
-}
-
-pub(crate) fn size(x: u16) -> usize
-    ensures { λ r. ⌜ (r ≡ x) × (r < 65536) ⌝ }
-{
-    x as usize
 }
 
 pub(crate) fn lesser(a: u32, b: u32) -> u32

@@ -1,5 +1,5 @@
 // The stops of a train, by a running index as the points pass.
-use crate::numbers::size;
+use widths::size;
 ghost use mathlib.Core.Path.{_≡_};
 ghost use mathlib.Core.Bool.{cond};
 ghost use Prim.Native.Nat.{_+_, _≤_};

@@ -1,7 +1,7 @@
 // The backward sweep of a run, and the last band's top.
 use crate::numbers::lesser;
-use crate::numbers::wide;
 use line::Train;
+use widths::wide;
 ghost use mathlib.Core.List.{_++_};
 ghost use mathlib.Core.Path.{_≡_};
 ghost use Prim.Native.Nat.{ℕ, _≤_, _<_};

@@ -1,11 +1,11 @@
 // The running times: cell times and dwells added up from point to point.
-use crate::numbers::size;
-use crate::numbers::wide64;
 use crate::root::root;
 use crate::speed::Speed;
 use crate::speed::SquaredSpeed;
 use line::Line;
 use line::Train;
+use widths::size;
+use widths::wide64;
 ghost use mathlib.Core.Path.{_≡_};
 ghost use Prim.Native.Nat.{ℕ, _+_, _<_, _≤_};
 ghost use lib.ListN.{length};

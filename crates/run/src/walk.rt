@@ -1,7 +1,7 @@
 // The limits that a train is under, as its head and its tail pass along the line.
 use crate::numbers::lesser;
-use crate::numbers::size;
-use crate::numbers::wide;
+use widths::size;
+use widths::wide;
 ghost use mathlib.Core.Path.{_≡_};
 ghost use Prim.Native.Nat.{_+_, _-_, _≤_, _<_};
 ghost use Rattle.rules.specs.Count.{entry, lowestFrom};

@@ -1,4 +1,5 @@
 use Rattle.rules.specs.Count.{ceilDiv}
+use Rattle.rules.specs.Run.{trainCells}
 use Rattle.line.proofs.Rules.{last-block-numbers}
 use Prim.Native.Nat.{_+_, _-_}
 use native.Mathlib.Nat.{div-le-self}
@@ -19,35 +20,26 @@ element-copy-out-size c = search needs
 size-requires : tie.Need-size-requires
 size-requires c κs = search needs
 
-size-requires-2 : tie.Need-size-requires-2
-size-requires-2 c κs = search needs
-
-size-requires-3 : tie.Need-size-requires-3
-size-requires-3 c κs = search needs
-
-sub-cells : tie.Need-sub-cells
-sub-cells c = search needs
-
-add-cells : tie.Need-add-cells
-add-cells c = search needs
-
-div-cells : tie.Need-div-cells
-div-cells c = search needs
+train-cells-requires : tie.Need-train-cells-requires
+train-cells-requires c κs = search needs
 
 add-result : tie.Need-add-result
-add-result c = omega (arith, div-le-self (c .size3 .result + (c .before .size2 .result - 1)) (c .before .size2 .result))
+unfolding trainCells ceilDiv
+add-result c =
+    let a = c .before .before .before .args in
+    omega (arith, c .train-cells .ensures, div-le-self (a .train .length + (a .t1 .step - 1)) (a .t1 .step))
 
-size-requires-4 : tie.Need-size-requires-4
-size-requires-4 c κs = search needs
+size-requires-2 : tie.Need-size-requires-2
+size-requires-2 c κs = search needs
 
 sub-result : tie.Need-sub-result
 sub-result c = search needs
 
 returns : tie.Need-returns
-unfolding ceilDiv
 returns c =
-    rw (last-block-numbers (c .before .before .before .before .before .args .t1) (c .before .before .before .before .before .args .train) (omega arith))
-    (rw (c .before .before .before .size .ensures .0, c .before .before .size2 .ensures .0, c .before .size3 .ensures .0, c .size4 .ensures .0))
+    let a = c .before .before .before .before .args in
+    rw (last-block-numbers (a .t1) (a .train) (omega arith))
+    (rw (c .before .before .size .ensures .0, c .before .train-cells .ensures, c .size2 .ensures .0))
 
 pub last-block-kept-spec : {M : Type 1} → statement M
 last-block-kept-spec =
@@ -57,12 +49,8 @@ last-block-kept-spec =
     mul-size
     element-copy-out-size
     size-requires
-    size-requires-2
-    size-requires-3
-    sub-cells
-    add-cells
-    div-cells
+    train-cells-requires
     add-result
-    size-requires-4
+    size-requires-2
     sub-result
     returns)

@@ -75,8 +75,8 @@ loop-again c =
     let o = c .before .before .before .before .before .before .before .loop in (
       search needs,
       search needs,
-      fill-up (o .inv .2) (omega arith) (add-one _) (omega arith) (rw (c .before .before .before .change-over .ensures, c .before .before .before .before .wide2 .ensures)),
-      fill-up (o .inv .3) (omega arith) (add-one _) (omega arith) (c .squared-of .ensures ∙ ap squared (c .before .wide3 .ensures)),
+      fill-up (o .inv .2) (omega arith) (add-one _) (omega arith) (rw (c .before .before .before .change-over .ensures, c .before .before .before .before .wide2 .ensures .0)),
+      fill-up (o .inv .3) (omega arith) (add-one _) (omega arith) (c .squared-of .ensures ∙ ap squared (c .before .wide3 .ensures .0)),
     )
 
 returns : tie.Need-returns Inv-loop μ-loop
@@ -84,7 +84,7 @@ returns c =
     let o = c .before .loop in
     record {
       count = sym (length-row _ _);
-      gain = λ k h. o .inv .2 .inside k (omega arith) (omega arith) ∙ ap₂ change (sym (entry-row _ _ k h)) (c .before .before .wide .ensures);
+      gain = λ k h. o .inv .2 .inside k (omega arith) (omega arith) ∙ ap₂ change (sym (entry-row _ _ k h)) (c .before .before .wide .ensures .0);
       most = λ k h. o .inv .3 .inside k (omega arith) (omega arith) ∙ ap squared (sym (entry-row _ _ k h));
     }
 

@@ -18,7 +18,7 @@ wide-requires : tie.Need-wide-requires
 wide-requires c κs = search needs
 
 returns : tie.Need-returns
-returns c = c .wide .ensures ∙ sym (last-of-row _ _ (omega arith))
+returns c = c .wide .ensures .0 ∙ sym (last-of-row _ _ (omega arith))
 
 pub last-top-spec : {M : Type 1} → statement M
 last-top-spec = tie.close (tie.spec sub-last mul-wide element-copy-out-wide wide-requires returns)

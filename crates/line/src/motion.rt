@@ -1,11 +1,11 @@
 // Numbers of a train on a line that its run and its holds go by, whatever the two hold.
-use crate::numbers::size;
-use crate::numbers::wide64;
-use line::Line;
-use line::Train;
+use crate::decoded::Line;
+use crate::decoded::Train;
+use widths::size;
+use widths::wide64;
 ghost use mathlib.Core.Path.{_≡_};
 ghost use Rattle.rules.specs.Run.{brakingLoss, trainCells};
 ghost use Rattle.line.specs.Values.{lineIn, trainIn};
 
 // G, the squared speed lost over one step at the practice braking rate.
 pub fn braking_loss(line: Line, train: Train) -> u64

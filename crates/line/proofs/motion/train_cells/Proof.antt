@@ -4,8 +4,8 @@ use Rattle.rules.specs.Run.{trainCells}
 use Rattle.rules.specs.Count.{ceilDiv}
 use native.Mathlib.Omega.{arith}
 use borrow.Author.Needs.{needs}
-use Rattle.run.proofs.motion.train_cells.Statement.{statement}
-use Rattle.run.proofs.motion.train_cells.Tie as tie
+use Rattle.line.proofs.motion.train_cells.Statement.{statement}
+use Rattle.line.proofs.motion.train_cells.Tie as tie
 
 size-requires : tie.Need-size-requires
 size-requires c κs = search needs

@@ -1,12 +1,12 @@
 use Prim.Native.Nat.{_*_, _≤_}
 use mathlib.Core.Path.{sym, _∙_}
-use Rattle.run.proofs.Traction.{practice-most}
+use Rattle.rules.proofs.Step.{practice-most}
 use Rattle.rules.specs.Run.{brakingLoss, change}
 use native.Mathlib.Nat.{mul-le-mul, mul-le-mul-right}
 use native.Mathlib.Omega.{arith}
 use borrow.Author.Needs.{needs}
-use Rattle.run.proofs.motion.braking_loss.Statement.{statement}
-use Rattle.run.proofs.motion.braking_loss.Tie as tie
+use Rattle.line.proofs.motion.braking_loss.Statement.{statement}
+use Rattle.line.proofs.motion.braking_loss.Tie as tie
 
 practice-rate-requires : tie.Need-practice-rate-requires
 practice-rate-requires c κs = search needs

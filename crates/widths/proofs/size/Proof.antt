@@ -1,0 +1,9 @@
+use borrow.Author.Needs.{needs}
+use Rattle.widths.proofs.size.Statement.{statement}
+use Rattle.widths.proofs.size.Tie as tie
+
+returns : tie.Need-returns
+returns c = search needs
+
+pub size-spec : {M : Type 1} → statement M
+size-spec = tie.close (tie.spec returns)
