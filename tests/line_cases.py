@@ -20,6 +20,7 @@ sys.path.insert(0, str(HERE / "calculator"))
 
 from calculator import Line, Refused, Train, accepted_line, broken_rules, check_call, number_of, parse  # noqa: E402
 from calculator import record_call, sample_line, write_line  # noqa: E402
+from packed import write_cases  # noqa: E402
 
 MOST_BYTES = 65536
 MOST = 65535
@@ -391,12 +392,7 @@ def main():
     for part in (sample, single_rules, several_rules, valid_files, largest_files, cut_files, great_sizes, any_bytes):
         part(cases, rng)
     cases.tally["files"] = len(cases.files)
-    crate = HERE.parent / "crates" / "line_cases"
-    (crate / "stdin").write_bytes(cases.packed)
-    (crate / "stdout").write_text("".join(line + "\n" for line in cases.lines))
-    for what in sorted(cases.tally):
-        print("%6d %s" % (cases.tally[what], what))
-    print("%d bytes in, %d bytes out" % (len(cases.packed), (crate / "stdout").stat().st_size))
+    write_cases("line_cases", cases.packed, cases.lines, cases.tally)
 
 
 if __name__ == "__main__":

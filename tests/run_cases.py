@@ -24,6 +24,7 @@ sys.dont_write_bytecode = True
 from calculator import Hold, Line, Refused, Train, accepted_line, hold_call, number_of, padded, parse  # noqa: E402
 from calculator import sample_line, write_line  # noqa: E402
 from line_cases import a_line, changed, changes_of_line, changes_of_train, kept, pick, rising, roomy  # noqa: E402
+from packed import write_cases  # noqa: E402
 
 NO_SPEED = 2 ** 32 - 1
 NO_TIME = 2 ** 64 - 1
@@ -237,12 +238,7 @@ def main():
     for part in (sample, all_sizes, stops, lower_limits, bands, longest_trains, extremes, many_trains, short_buffers, broken_rules):
         part(cases, rng)
     cases.tally["files"] = len(cases.files)
-    crate = HERE.parent / "crates" / "run_cases"
-    (crate / "stdin").write_bytes(cases.packed)
-    (crate / "stdout").write_text("".join(line + "\n" for line in cases.lines))
-    for what in sorted(cases.tally):
-        print("%6d %s" % (cases.tally[what], what))
-    print("%d bytes in, %d bytes out" % (len(cases.packed), (crate / "stdout").stat().st_size))
+    write_cases("run_cases", cases.packed, cases.lines, cases.tally)
 
 
 if __name__ == "__main__":

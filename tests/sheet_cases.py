@@ -22,6 +22,7 @@ sys.path.insert(0, str(HERE / "calculator"))
 sys.dont_write_bytecode = True
 
 from calculator import Hold, Refused, Sheet, add_call, headway_call, open_call  # noqa: E402
+from packed import write_cases  # noqa: E402
 
 OPEN, ADD, HEADWAY, FORGE, SHOW = 1, 2, 3, 4, 5
 PLACES = 32
@@ -200,20 +201,20 @@ def seventy_in_a_row(calls, rng):
         calls.show()
 
 
-def latest_ends(calls, rng):
-    for n in (1, 3, 32):
+def beyond_full(calls, rng, counts, make):
+    for n in counts:
         calls.open(n)
         for _ in range(66):
-            calls.add(longest(rng, n))
+            calls.add(make(rng, n))
         calls.show()
+
+
+def latest_ends(calls, rng):
+    beyond_full(calls, rng, (1, 3, 32), longest)
 
 
 def ties(calls, rng):
-    for n in range(2, 9):
-        calls.open(n)
-        for _ in range(66):
-            calls.add(tiny(rng, n))
-        calls.show()
+    beyond_full(calls, rng, range(2, 9), tiny)
 
 
 def one_record_again(calls, rng):
@@ -286,13 +287,8 @@ def main():
     calls = Calls()
     for part in (every_count, seventy_in_a_row, latest_ends, ties, one_record_again, wrong_openings, forged_sheets, headways):
         part(calls, rng)
-    crate = HERE.parent / "crates" / "sheet_cases"
     packed = struct.pack("<%dQ" % len(calls.numbers), *calls.numbers)
-    (crate / "stdin").write_bytes(packed)
-    (crate / "stdout").write_text("".join(line + "\n" for line in calls.lines))
-    for what in sorted(calls.tally):
-        print("%6d %s" % (calls.tally[what], what))
-    print("%d bytes in, %d bytes out" % (len(packed), (crate / "stdout").stat().st_size))
+    write_cases("sheet_cases", packed, calls.lines, calls.tally)
 
 
 if __name__ == "__main__":

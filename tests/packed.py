@@ -1,0 +1,14 @@
+"""What the scripts that pack cases have in common."""
+from pathlib import Path
+
+CRATES = Path(__file__).resolve().parent.parent / "crates"
+
+
+def write_cases(program, packed, lines, tally):
+    """Writes stdin and stdout of a test program, and prints how many cases of each kind there are."""
+    (CRATES / program / "stdin").write_bytes(packed)
+    answers = "".join(line + "\n" for line in lines)
+    (CRATES / program / "stdout").write_text(answers)
+    for what in sorted(tally):
+        print("%6d %s" % (tally[what], what))
+    print("%d bytes in, %d bytes out" % (len(packed), len(answers)))
