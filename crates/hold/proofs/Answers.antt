@@ -1,15 +1,15 @@
 -- What the hold calls answer, refused and accepted. Assumes nothing.
 use Prim.Native.Nat.{ℕ, _+_, _≤_, _<_}
-use mathlib.Core.Bool.{Bool, true, false, cond}
+use mathlib.Core.Bool.{Bool, true, false}
 use mathlib.Core.List.{List}
-use mathlib.Core.Path.{_≡_, refl, sym, ap, ap₂, _∙_}
+use mathlib.Core.Path.{_≡_, refl, sym, _∙_}
 use native.Mathlib.Nat.{zero-add}
 use native.Mathlib.Omega.{arith}
-use lib.Dec.{eqb, leb}
+use lib.Dec.{eqb}
 use lib.ListN.{length}
 use borrow.Author.Tests.{eqb-true, eqb-false, eq-eqb, ne-eqb, leb-true}
-use Rattle.rules.specs.Count.{_and_, entry, row}
-use Rattle.rules.specs.Line.{Line, Train, lineOf, trainOf}
+use Rattle.rules.specs.Count.{entry, row}
+use Rattle.rules.specs.Line.{Line, Train}
 use Rattle.rules.specs.Hold.{Hold, emptyHold, holdOf}
 use Rattle.rules.specs.Refusal.{refusal, pairRules, buffersLong}
 use Rattle.rules.specs.Run.{runRow, runAt}

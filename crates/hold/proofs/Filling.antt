@@ -1,19 +1,18 @@
 -- A hold record filled block by block: the approach point and the next stop move forward with the blocks. Assumes nothing.
 use Prim.Native.Nat.{ℕ, suc, _+_, _-_, _*_, _^_, _≤_, _<_}
 use mathlib.Core.List.{List}
-use mathlib.Core.Path.{_≡_, refl, sym, ap, ap₂, subst, _∙_}
-use native.Mathlib.Decide.{decLt}
+use mathlib.Core.Path.{_≡_, sym, ap, ap₂, _∙_}
 use native.Mathlib.Nat.{mul-le-mul-left, le-refl, le-trans}
 use native.Mathlib.Numerals.{add-one}
 use native.Mathlib.Omega.{arith}
 use lib.ListN.{length, set, length-replicate, getD-replicate}
 use Rattle.rules.specs.Admitted.{Admitted}
-use Rattle.rules.specs.Count.{entry, row}
+use Rattle.rules.specs.Count.{entry}
 use Rattle.rules.specs.Hold.{Hold, emptyHold, approachPoint, holdBegin, holdEnd, holdWith, holdOf}
 use Rattle.rules.specs.Line.{Line, Train}
 use Rattle.rules.specs.Run.{brakingLoss, trainCells, runRow}
 use Rattle.rules.specs.Time.{arrival, departure, runTimes}
-use Rattle.rules.proofs.Count.{rises-far, length-row, entry-row}
+use Rattle.rules.proofs.Count.{rises-far}
 use Rattle.rules.proofs.Fill.{Filled, fill-none, fill-up}
 use Rattle.rules.proofs.Hold.{approach-is, approach-slow, approach-agree, places-filled, clears-within}
 use Rattle.rules.proofs.Run.{run-is}

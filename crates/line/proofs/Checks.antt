@@ -6,7 +6,6 @@ use mathlib.Core.Path.{_≡_, sym, ap, _∙_}
 use native.Mathlib.Omega.{arith}
 use lib.ListN.{length}
 use borrow.Author.Tests.{leb-true}
-use Rattle.rules.specs.Count.{_and_}
 use Rattle.rules.specs.File.{pointCount, stepLength, limitCount, blockCount, trainCount, trainsAt, announcedEnd}
 use Rattle.rules.specs.Line as rules
 use Rattle.rules.specs.Line.{lineOf}

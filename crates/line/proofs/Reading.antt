@@ -1,13 +1,12 @@
 -- A decoded line and a decoded train are those of the file, if each number and each array is. Assumes nothing.
 use Prim.Native.Nat.{ℕ, _+_, _*_}
 use mathlib.Core.List.{List}
-use mathlib.Core.Path.{_≡_, refl}
+use mathlib.Core.Path.{_≡_}
 use Rattle.rules.specs.Count.{entry, row}
-use Rattle.rules.specs.File.{words, pointCount, stepLength, setUpTime, releaseTime, limitCount, blockCount, limitPointsAt, limitsAt, blockStartsAt, blockEndsAt, classNumber, lengthNumber, bandCount, stopCount, topsAt, ratesAt, stopsAt, dwellsAt}
+use Rattle.rules.specs.File.{words, pointCount, stepLength, setUpTime, releaseTime, limitCount, blockCount, classNumber, lengthNumber, bandCount, stopCount}
 use Rattle.rules.specs.Line.{lineOf, trainAt}
 use Rattle.line.specs.declared.decoded.Line.{Line}
 use Rattle.line.specs.declared.decoded.Train.{Train}
-use Rattle.line.specs.Values.{lineIn, trainIn}
 use Rattle.line.specs.Decoded.{IsLine, IsTrain}
 
 pub line-is : (file : List ℕ) (l : Line) →

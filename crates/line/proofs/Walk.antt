@@ -1,10 +1,9 @@
 -- A walk through the trains of a file: what is known of those passed, and of one more. Assumes nothing.
-use Prim.Native.Nat.{ℕ, suc, _+_, _≤_, _<_}
+use Prim.Native.Nat.{ℕ, _+_, _≤_, _<_}
 use mathlib.Core.Bool.{Bool, true}
 use mathlib.Core.List.{List, [], _∷_}
-use mathlib.Core.Path.{_≡_, refl, sym, ap, _∙_}
+use mathlib.Core.Path.{_≡_, sym, ap, _∙_}
 use native.Mathlib.Numerals.{add-one}
-use native.Mathlib.Omega.{arith}
 use Rattle.rules.specs.Count.{every}
 use Rattle.rules.specs.File.{trainCount, recordAt, bandCount, stopCount}
 use Rattle.rules.specs.Line.{trainAt, trainOf}

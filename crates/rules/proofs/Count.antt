@@ -1,15 +1,15 @@
 -- Laws of the tests, choices and rows over the whole numbers below a count. Assumes nothing.
 use Prim.Native.Nat.{ℕ, zero, suc, _+_, _-_, _*_, _/_, _≤_, _<_, min, max}
 use mathlib.Core.Bool.{Bool, true, false, cond, false≢true}
-use mathlib.Core.List.{List, [], _∷_, _++_}
+use mathlib.Core.List.{[]}
 use mathlib.Core.Logic.{_⊎_, inl, inr, ⊎-elim}
 use mathlib.Core.Path.{_≡_, refl, sym, subst, ap, ap₂, _∙_}
 use native.Mathlib.Decide.{decLe}
 use native.Mathlib.Nat.{le-refl, le-trans, le-suc-iff, le-of-suc-le-suc, eq-or-lt-of-le, le-max-left, le-max-right, max-le, add-zero, zero-add, lt-div-mul-add, div-lt-iff-lt-mul, suc-mul, mul-le-mul-left}
 use native.Mathlib.Omega.{arith}
 use lib.Dec.{leb, eqb}
-use lib.ListN.{length, getD}
-use borrow.Author.Tests.{leb-true, le-leb, eqb-true, eq-eqb, ne-eqb}
+use lib.ListN.{length}
+use borrow.Author.Tests.{leb-true, le-leb, ne-eqb}
 use Rattle.rules.specs.Count.{_and_, entry, rowFrom, row, every, within, allWithin, belowBy, risesBy, greatestBelow, lowestFrom, firstBelow, lastBelow, ceilDiv}
 use Rattle.rules.specs.Meaning.{IsRoundedUp}
 

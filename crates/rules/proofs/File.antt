@@ -14,7 +14,7 @@ use borrow.Author.Tests.{le-leb, lt-leb, leb-true, leb-false}
 use Rattle.rules.specs.Count.{entry}
 use Rattle.rules.specs.File.{word, words, sizesEnd, limitCount, blockCount, trainCount, trainsAt, bandCount, stopCount, recordEnd, recordAt, announcedEnd}
 use Rattle.rules.specs.Reading.{Reading, endsEarly, readTo, have, readTrains, readFile}
-use Rattle.rules.specs.Line.{Line, Train, lineOf, trainAt}
+use Rattle.rules.specs.Line.{lineOf, trainAt}
 use Rattle.rules.specs.Refusal.{whole, nothingAfter}
 use Rattle.rules.specs.Admitted.{Parallel}
 use Rattle.rules.proofs.Count.{length-row, entry-row}

@@ -1,10 +1,10 @@
 -- A buffer that a loop fills with a function's values, one store a turn, upwards or downwards. Assumes nothing.
-use Prim.Native.Nat.{ℕ, zero, suc, _+_, _-_, _≤_, _<_}
+use Prim.Native.Nat.{ℕ, suc, _+_, _-_, _≤_, _<_}
 use mathlib.Core.Path.{_≡_, refl, sym, _∙_, ap}
-use mathlib.Core.List.{List, [], _∷_, _++_}
+use mathlib.Core.List.{List, [], _++_}
 use native.Mathlib.Decide.{decLe}
 use native.Mathlib.Omega.{arith}
-use lib.ListN.{length, getD, set, drop, length-set, length-append, length-drop, List·getD-append}
+use lib.ListN.{length, set, drop, length-set, length-append, length-drop, List·getD-append}
 use lib.Seq.{getD-set-same, getD-set-other, getD-drop, getD-append-add, ext-getD}
 use Rattle.rules.specs.Count.{entry, row}
 use Rattle.rules.proofs.Count.{length-row, entry-row}

@@ -1,23 +1,21 @@
 -- Approach points and hold records are what the paper says, and a hold from an accepted file never breaks rule 14. Assumes nothing.
-use Prim.Native.Nat.{ℕ, zero, suc, _+_, _-_, _*_, _^_, _≤_, _<_}
-use mathlib.Core.Bool.{true, false, cond}
+use Prim.Native.Nat.{ℕ, zero, suc, _+_, _-_, _*_, _≤_, _<_}
+use mathlib.Core.Bool.{cond}
 use mathlib.Core.List.{List}
-use mathlib.Core.Logic.{_⊎_, inl, inr, ⊎-elim}
+use mathlib.Core.Logic.{_⊎_, inl, inr}
 use mathlib.Core.Path.{_≡_, refl, sym, ap, _∙_}
 use native.Mathlib.Decide.{decLt}
-use native.Mathlib.Nat.{mul-suc, le-refl, le-of-eq, eq-or-lt-of-le, le-of-suc-le-suc}
+use native.Mathlib.Nat.{mul-suc, eq-or-lt-of-le, le-of-suc-le-suc}
 use native.Mathlib.Omega.{arith}
 use lib.Dec.{leb, ltb}
 use lib.ListN.{length, List·getD-eq-default}
 use lib.Seq.{ext-getD}
-use borrow.Author.Tests.{leb-true, leb-false, le-leb, lt-leb, lt-ltb, le-ltb}
-use Rattle.rules.specs.Count.{entry, row, lastBelow}
+use borrow.Author.Tests.{leb-true, le-leb, lt-leb, lt-ltb, le-ltb}
+use Rattle.rules.specs.Count.{entry, row}
 use Rattle.rules.specs.File.{trainCount}
 use Rattle.rules.specs.Line.{Line, Train, lineOf, trainOf}
 use Rattle.rules.specs.Run.{brakingLoss, trainCells, runRow}
-use Rattle.rules.specs.Time.{arrival, departure}
-use Rattle.rules.specs.Hold.{Hold, approachPoint, holdBegin, holdEnd, blockPlaces, holdWith, holdOf}
-use Rattle.rules.specs.Sheet.{begin, end}
+use Rattle.rules.specs.Hold.{approachPoint, holdBegin, holdEnd, blockPlaces, holdWith, holdOf}
 use Rattle.rules.specs.Calls.{fileRefusal}
 use Rattle.rules.specs.Admitted.{Admitted, Rule14}
 use Rattle.rules.specs.Meaning.{Brakes, IsApproachPoint, IsHold}

@@ -1,12 +1,12 @@
 -- The rules of a line with one train: they are kept exactly where line and train are admitted. Assumes nothing.
 use Prim.Native.Nat.{ℕ, zero, suc, _<_}
 use mathlib.Core.Bool.{true}
-use mathlib.Core.List.{List, [], _∷_}
+use mathlib.Core.List.{[]}
 use mathlib.Core.Path.{_≡_}
 use native.Mathlib.Omega.{arith}
-use lib.ListN.{length, getD}
+use lib.ListN.{getD}
 use Rattle.rules.specs.Line.{Line, Train}
-use Rattle.rules.specs.Refusal.{rule, refusal, pairRules, buffersLong}
+use Rattle.rules.specs.Refusal.{refusal, pairRules}
 use Rattle.rules.specs.Admitted.{Rule3Line, Parallel, Admitted}
 use Rattle.rules.specs.Meaning.{noRule, IsLowestBroken}
 use Rattle.rules.proofs.Count.{and-left, and-right, and-both}

@@ -1,18 +1,18 @@
 -- The number of refusal is the first broken rule's, for file calls the lowest; an accepted file gives the rules' properties for each
 -- of its trains. Assumes nothing.
 use Prim.Native.Nat.{ℕ, zero, suc, _+_, _≤_, _<_, min}
-use mathlib.Core.Bool.{Bool, true, false, cond, false≢true, true≢false}
+use mathlib.Core.Bool.{Bool, true, false, cond, false≢true}
 use mathlib.Core.List.{List, [], _∷_, _++_}
 use mathlib.Core.Logic.{_⊎_, inl, inr, ⊎-elim}
 use mathlib.Core.Option.{Option, none, some}
-use mathlib.Core.Path.{_≡_, refl, sym, ap, _∙_}
+use mathlib.Core.Path.{_≡_, refl, sym, _∙_}
 use native.Mathlib.Decide.{decLt}
 use native.Mathlib.Nat.{le-of-eq, eq-or-lt-of-le}
 use native.Mathlib.Omega.{arith}
 use lib.Dec.{eqb}
 use lib.ListN.{length, getD}
 use borrow.Author.Tests.{le-leb, lt-leb, leb-true, ltb-true, lt-ltb, le-ltb, eqb-true, eqb-false, eq-eqb, ne-eqb}
-use Rattle.rules.specs.Count.{_and_, every}
+use Rattle.rules.specs.Count.{_and_}
 use Rattle.rules.specs.File.{trainCount, announcedEnd}
 use Rattle.rules.specs.Line.{lineOf, trainOf}
 use Rattle.rules.specs.Refusal.{Rule, rule, firstBroken, numberOr0, refusal, lowerOf, whole, nothingAfter, trainSizes, sizesRule, bandsRule, stopsRule, lastBlockRule, fileRules, trainThere, trainRules, buffersLong, runRules}

@@ -1,18 +1,16 @@
 -- Each test of the file rules 3 to 9 passes exactly where the line and the train have the rule's property. Assumes nothing.
-use Prim.Native.Nat.{ℕ, zero, suc, _+_, _-_, _≤_, _<_}
-use mathlib.Core.Bool.{Bool, true, false}
-use mathlib.Core.List.{List, [], _∷_}
+use Prim.Native.Nat.{ℕ, _+_, _-_, _≤_, _<_}
+use mathlib.Core.Bool.{true}
+use mathlib.Core.List.{[]}
 use mathlib.Core.Logic.{_↔_}
 use mathlib.Core.Path.{_≡_}
 use native.Mathlib.Omega.{arith}
 use native.Mathlib.Nat.{add-zero}
 use native.Mathlib.Numerals.{add-one}
-use lib.Dec.{leb, eqb}
 use lib.ListN.{length}
 use borrow.Author.Tests.{leb-true, le-leb, eqb-true, eq-eqb}
-use Rattle.rules.specs.Count.{_and_, entry, within, allWithin, belowBy, risesBy}
+use Rattle.rules.specs.Count.{entry}
 use Rattle.rules.specs.Line.{Line, Train}
-use Rattle.rules.specs.Run.{trainCells}
 use Rattle.rules.specs.Refusal.{lineSizes, trainSizes, limitPointsRule, limitsRule, blocksRule, bandsRule, stopsRule, lastBlockRule}
 use Rattle.rules.specs.Admitted.{Rule3Line, Rule3Train, Rule4, Rule5, Rule6, Rule7, Rule8, Rule9}
 use Rattle.rules.proofs.Count.{and-left, and-right, and-both, within-means, within-holds, all-within-means, all-within-holds, below-means, below-holds, rises-means, rises-holds}

@@ -15,7 +15,7 @@ use Rattle.rules.specs.Run.{brakingLoss, listed, cap, tractionStep, Perm
 use Rattle.rules.specs.Admitted.{Admitted}
 use Rattle.rules.proofs.Count.{length-row, entry-row}
 use Rattle.rules.proofs.Step.{loss-least, step-mono, step-least, step-keeps}
-use Rattle.rules.proofs.Cap.{cap-top, cap-least, cap-most, one-is-no-stop}
+use Rattle.rules.proofs.Cap.{cap-top, cap-least, one-is-no-stop}
 use Rattle.rules.proofs.Sweep.{forward-le, backward-next, backward-le}
 
 -- f keeps to the caps and to the traction steps up to point m

@@ -1,7 +1,6 @@
 -- Document 01, "Numbers of refusal": each rule as a property of the line, of a train, of a sheet or of a hold record. The tests of
 -- Refusal pass exactly where these hold (laws `rule-3-line` to `rule-14`).
 use Prim.Native.Nat.{ℕ, suc, _+_, _-_, _*_, _^_, _≤_, _<_}
-use mathlib.Core.List.{List}
 use mathlib.Core.Path.{_≡_}
 use lib.ListN.{length}
 use Rattle.rules.specs.Count.{entry}

@@ -6,7 +6,7 @@ use lib.Dec.{leb, ltb, eqb}
 use lib.ListN.{length, getD}
 use Rattle.rules.specs.Count.{entry}
 use Rattle.rules.specs.File.{trainCount}
-use Rattle.rules.specs.Line.{Line, lineOf, trainOf}
+use Rattle.rules.specs.Line.{lineOf, trainOf}
 use Rattle.rules.specs.Time.{runTimes}
 use Rattle.rules.specs.Hold.{Hold, holdOf}
 use Rattle.rules.specs.Sheet.{fresh}

@@ -1,14 +1,13 @@
 -- What the run calls answer and leave in the buffers, refused and accepted. Assumes nothing.
 use Prim.Native.Nat.{ℕ, _≤_, _<_}
 use mathlib.Core.Bool.{Bool, true, false, cond}
-use mathlib.Core.List.{List, [], _∷_, _++_}
+use mathlib.Core.List.{List, [], _∷_}
 use mathlib.Core.Path.{_≡_, refl, sym, ap, _∙_, subst}
-use native.Mathlib.Omega.{arith}
-use lib.ListN.{length, take, drop}
+use lib.ListN.{length, take}
 use lib.Seq.{take-at}
 use lib.Dec.{eqb}
 use borrow.Author.Tests.{eqb-true, eq-eqb, ne-eqb, le-leb, lt-leb}
-use Rattle.rules.specs.Count.{_and_, row, entry}
+use Rattle.rules.specs.Count.{_and_, row}
 use Rattle.rules.specs.File.{pointCount}
 use Rattle.rules.specs.Line.{Line, Train, lineOf, trainOf}
 use Rattle.rules.specs.Run.{runRow, runAt}
@@ -19,7 +18,7 @@ use Rattle.rules.specs.Admitted.{Parallel, Admitted}
 use Rattle.rules.proofs.Count.{length-row}
 use Rattle.rules.proofs.Refusal.{refusal-none, refusal-cons, append-refused, append-kept, run-refused, run-by-buffers, train-accepted, admitted}
 use Rattle.rules.proofs.Calls.{run-leaves}
-use Rattle.rules.proofs.Pairs.{pair-rising, pair-kept, pair-admitted}
+use Rattle.rules.proofs.Pairs.{pair-rising, pair-kept}
 use Rattle.rules.proofs.Time.{fastest}
 use Rattle.line.specs.declared.decoded.Line as decodedLine
 use Rattle.line.specs.declared.decoded.Train as decodedTrain

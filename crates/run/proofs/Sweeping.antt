@@ -8,9 +8,9 @@ use lib.Dec.{ltb, eqb}
 use lib.ListN.{length}
 use borrow.Author.Tests.{ltb-true}
 use Rattle.rules.specs.Line.{Line, Train}
-use Rattle.rules.specs.Run.{squared, lastTop, capSpeed, listed, capOf, cap, tractionStep, forwardSweep, forward, trainCells}
+use Rattle.rules.specs.Run.{squared, lastTop, capOf, cap, tractionStep, forwardSweep, forward, trainCells}
 use Rattle.rules.specs.Admitted.{Admitted}
-use Rattle.rules.specs.Count.{_and_, entry, row, lowestFrom}
+use Rattle.rules.specs.Count.{_and_, entry, lowestFrom}
 use Rattle.rules.proofs.Count.{length-row, entry-row, lowest-le}
 use Rattle.rules.proofs.Step.{step-mono, step-keeps, squared-most, last-top-most}
 use Rattle.rules.proofs.Cap.{cap-top}

@@ -1,12 +1,12 @@
 -- Laws of a train's changes of squared speed, of its decoded bands and of the traction step by them. Assumes nothing.
-use Prim.Native.Nat.{ℕ, zero, suc, _+_, _-_, _≤_, _<_, min}
+use Prim.Native.Nat.{ℕ, suc, _+_, _-_, _≤_, _<_, min}
 use mathlib.Core.List.{List, [], _∷_}
 use mathlib.Core.Path.{_≡_, refl, ap, _∙_}
 use native.Mathlib.Nat.{le-antisymm, mul-le-mul, mul-le-mul-right}
 use native.Mathlib.Omega.{arith}
 use lib.ListN.{length}
 use Rattle.rules.specs.Count.{entry, row, greatestBelow}
-use Rattle.rules.specs.Line.{Line, Train, practiceRate}
+use Rattle.rules.specs.Line.{Line, Train}
 use Rattle.rules.specs.Run.{squared, change, brakingLoss, lastOr, tractionStep}
 use Rattle.rules.specs.Admitted.{Admitted}
 use Rattle.rules.specs.Meaning.{bandPart}

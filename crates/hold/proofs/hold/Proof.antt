@@ -1,7 +1,6 @@
-use mathlib.Core.Path.{_≡_, refl, sym, _∙_}
+use mathlib.Core.Path.{refl}
 use Rattle.run.proofs.Answers.{not-run, as-run}
 use Rattle.hold.proofs.Answers.{file-refused, file-held}
-use native.Mathlib.Omega.{arith}
 use borrow.Author.Needs.{needs}
 use Rattle.hold.proofs.hold.Statement.{statement}
 use Rattle.hold.proofs.hold.Tie as tie

@@ -1,8 +1,8 @@
 use Prim.Native.Nat.{suc, _+_, _-_, _≤_, _<_}
 use Rattle.rules.proofs.Count.{length-row, entry-row}
-use Rattle.rules.specs.Count.{entry, row}
+use Rattle.rules.specs.Count.{entry}
 use lib.ListN.{length}
-use mathlib.Core.Path.{_≡_, refl, sym, _∙_}
+use mathlib.Core.Path.{_≡_, sym, _∙_}
 use Prim.Native.Nat.{_-_, _≤_, _<_}
 use Rattle.hold.proofs.Filling.{Holds, holds-first, holds-all, approach-asks, point-is, point-on, begin-is, begin-most, clear-on, clear-most, end-is, holds-on}
 use Rattle.sheet.specs.Values.{asHold}

@@ -1,9 +1,7 @@
 use Rattle.hold.proofs.Answers.{held-refused, held-accepted, run-done}
 use Rattle.run.proofs.Answers.{decoded-parallel}
 use Rattle.hold.proofs.Answers.{held-refused, held-accepted}
-use Rattle.line.specs.Values.{lineIn, trainIn}
 use native.Mathlib.Omega.{arith}
-use mathlib.Core.Path.{_≡_, sym, _∙_}
 use borrow.Author.Needs.{needs}
 use Rattle.hold.proofs.hold_train.Statement.{statement}
 use Rattle.hold.proofs.hold_train.Tie as tie

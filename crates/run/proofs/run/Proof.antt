@@ -1,8 +1,5 @@
 use Rattle.run.proofs.Answers.{as-fastest}
-use native.Mathlib.Omega.{arith}
-use mathlib.Core.Path.{_≡_, ap}
-use Rattle.line.specs.Opened.{trainAnswerIn}
-use Rattle.run.proofs.Answers.{not-run, as-run, line-is, train-is}
+use Rattle.run.proofs.Answers.{not-run, as-run}
 use borrow.Author.Needs.{needs}
 use Rattle.run.proofs.run.Statement.{statement}
 use Rattle.run.proofs.run.Tie as tie

@@ -1,6 +1,6 @@
 use lib.ListN.{length}
 use Rattle.line.specs.Values.{lineIn, trainIn}
-use mathlib.Core.Path.{_≡_, sym, _∙_}
+use mathlib.Core.Path.{sym, _∙_}
 use Rattle.rules.proofs.Pairs.{pair-admitted}
 use Rattle.run.proofs.Answers.{decoded-parallel, pair-refused, short-speeds, short-times, long-enough, buffers-kept, buffers-written, first-points}
 use native.Mathlib.Omega.{arith}

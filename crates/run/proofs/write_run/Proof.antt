@@ -3,8 +3,7 @@ use Rattle.line.specs.Values.{lineIn, trainIn}
 use mathlib.Core.Path.{_≡_}
 use mathlib.Core.List.{List, _++_}
 use lib.ListN.{drop}
-use Rattle.rules.specs.Count.{row}
-use Rattle.rules.specs.Run.{forward, runRow}
+use Rattle.rules.specs.Run.{runRow}
 use Rattle.run.proofs.Traction.{loss-most}
 use Rattle.run.proofs.Compose.{forward-most, sweeps-run, row-long, run-long, run-entries, run-written}
 use native.Mathlib.Omega.{arith}

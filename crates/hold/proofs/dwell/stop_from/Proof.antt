@@ -1,7 +1,6 @@
 use Rattle.hold.proofs.Seeking.{Seeking, seek-on, seek-there, seek-end}
 use Rattle.rules.specs.Count.{entry}
 use native.Mathlib.Omega.{arith}
-use mathlib.Core.Path.{sym, _∙_}
 use Prim.Native.Nat.{_-_}
 use borrow.Author.Needs.{needs}
 use Rattle.hold.proofs.dwell.stop_from.Statement.{statement}

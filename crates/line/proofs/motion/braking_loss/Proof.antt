@@ -1,8 +1,7 @@
 use Prim.Native.Nat.{_*_, _≤_}
-use mathlib.Core.Path.{sym, _∙_}
 use Rattle.rules.proofs.Step.{practice-most}
 use Rattle.rules.specs.Run.{brakingLoss, change}
-use native.Mathlib.Nat.{mul-le-mul, mul-le-mul-right}
+use native.Mathlib.Nat.{mul-le-mul}
 use native.Mathlib.Omega.{arith}
 use borrow.Author.Needs.{needs}
 use Rattle.line.proofs.motion.braking_loss.Statement.{statement}

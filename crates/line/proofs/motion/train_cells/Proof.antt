@@ -1,8 +1,7 @@
 use native.Mathlib.Nat.{div-zero}
-use mathlib.Core.Path.{_≡_, sym, _∙_}
+use mathlib.Core.Path.{sym, _∙_}
 use Rattle.rules.specs.Run.{trainCells}
 use Rattle.rules.specs.Count.{ceilDiv}
-use native.Mathlib.Omega.{arith}
 use borrow.Author.Needs.{needs}
 use Rattle.line.proofs.motion.train_cells.Statement.{statement}
 use Rattle.line.proofs.motion.train_cells.Tie as tie

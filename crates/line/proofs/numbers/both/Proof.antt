@@ -1,5 +1,4 @@
 use Rattle.rules.specs.Count.{_and_}
-use borrow.Author.Needs.{needs}
 use Rattle.line.proofs.numbers.both.Statement.{statement}
 use Rattle.line.proofs.numbers.both.Tie as tie
 

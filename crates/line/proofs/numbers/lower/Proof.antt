@@ -1,7 +1,6 @@
 use Rattle.rules.specs.Refusal.{lowerOf}
 use native.Mathlib.Omega.{arith}
 use borrow.Author.Tests.{eq-eqb, ne-eqb}
-use borrow.Author.Needs.{needs}
 use Rattle.line.proofs.numbers.lower.Statement.{statement}
 use Rattle.line.proofs.numbers.lower.Tie as tie
 

@@ -1,6 +1,5 @@
 use Rattle.rules.specs.Count.{rowFrom}
 use mathlib.Core.Path.{refl}
-use borrow.Author.Needs.{needs}
 use Rattle.line.proofs.opened.no_train.Statement.{statement}
 use Rattle.line.proofs.opened.no_train.Tie as tie
 

@@ -1,6 +1,6 @@
 use Rattle.rules.proofs.Refusal.{sizes-kept}
 use Rattle.rules.specs.File.{word}
-use mathlib.Core.Path.{_≡_, sym, ap, _∙_}
+use mathlib.Core.Path.{sym, ap, _∙_}
 use Rattle.line.proofs.Checks.{file-there, few}
 use native.Mathlib.Omega.{arith}
 use Rattle.line.proofs.Opening.{file-not-opened, file-opened}

@@ -1,5 +1,5 @@
 use native.Mathlib.Omega.{arith}
-use mathlib.Core.Path.{_≡_, sym, ap, _∙_}
+use mathlib.Core.Path.{sym, ap, _∙_}
 use Rattle.rules.specs.Line.{trainAt}
 use Rattle.rules.proofs.Count.{and-right}
 use Rattle.rules.proofs.Refusal.{train-accepted, sizes-kept}

@@ -1,5 +1,5 @@
 use Rattle.rules.proofs.Calls.{record-size}
-use mathlib.Core.Path.{_≡_, sym, _∙_}
+use mathlib.Core.Path.{sym, _∙_}
 use native.Mathlib.Omega.{arith}
 use Rattle.line.proofs.Opening.{train-there, train-taken, train-absent}
 use borrow.Author.Needs.{needs}

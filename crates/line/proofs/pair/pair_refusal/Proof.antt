@@ -1,5 +1,5 @@
 use borrow.Author.Tests.{not-true, not-false}
-use mathlib.Core.Path.{_≡_, sym, _∙_}
+use mathlib.Core.Path.{sym, _∙_}
 use Rattle.line.proofs.Checks.{pair-sizes-refused, pair-line-refused, pair-line-passed, pair-sized}
 use borrow.Author.Needs.{needs}
 use Rattle.line.proofs.pair.pair_refusal.Statement.{statement}

@@ -1,4 +1,3 @@
-use Rattle.rules.proofs.Loops.{and-of}
 use Rattle.line.proofs.Rules.{line-numbers, train-numbers}
 use borrow.Author.Needs.{needs}
 use Rattle.line.proofs.pair.pair_sized.Statement.{statement}

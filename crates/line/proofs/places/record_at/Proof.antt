@@ -1,9 +1,8 @@
 use mathlib.Core.Path.{_≡_, _∙_, ap}
-use Rattle.rules.specs.File.{recordAt, recordEnd}
+use Rattle.rules.specs.File.{recordAt}
 use Prim.Native.Nat.{_≤_, _-_}
 use native.Mathlib.Omega.{arith}
-use lib.ListN.{length}
-use Rattle.rules.proofs.File.{record-first, record-next, record-inside, records-end, trains-within}
+use Rattle.rules.proofs.File.{record-first, record-next, record-inside, trains-within}
 use borrow.Author.Needs.{needs}
 use Rattle.line.proofs.places.record_at.Statement.{statement}
 use Rattle.line.proofs.places.record_at.Tie as tie

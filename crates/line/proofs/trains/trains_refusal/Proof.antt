@@ -1,11 +1,10 @@
 use Rattle.line.proofs.Walk.{counts, trains-none, trains-more}
 use Rattle.line.specs.Decoded.{firstTrains}
 use Rattle.rules.specs.Refusal.{refusal}
-use mathlib.Core.Path.{_≡_, sym}
+use mathlib.Core.Path.{_≡_}
 use Prim.Native.Nat.{_≤_, _-_}
 use native.Mathlib.Omega.{arith}
 use Rattle.rules.specs.File.{trainCount, recordAt}
-use Rattle.rules.specs.Count.{every}
 use Rattle.rules.proofs.File.{record-first, record-next, record-inside, trains-within}
 use borrow.Author.Needs.{needs}
 use Rattle.line.proofs.trains.trains_refusal.Statement.{statement}

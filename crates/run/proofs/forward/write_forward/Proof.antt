@@ -1,24 +1,19 @@
 use Prim.Native.Nat.{_+_}
-use Rattle.run.specs.Stops.{stopHere}
 use Rattle.rules.specs.Run.{cap}
 use mathlib.Core.Bool.{cond}
 use Rattle.rules.proofs.Cap.{cap-most}
 use native.Mathlib.Numerals.{add-one}
-use Prim.Native.Nat.{_<_}
-use lib.ListN.{length, length-set}
 use Rattle.run.proofs.Sweeping.{counts}
 use Rattle.rules.specs.Run.{trainCells, lastTop}
 use Rattle.run.proofs.Traction.{count-least, count-most, bands-bounded, traction-is}
 use Rattle.run.proofs.Sweeping.{Before, before-start, before-next, forward-at, cap-at, under-most, counts, under-ready, under-begun, under-on, stop-by-list}
-use Rattle.run.proofs.Limits.{IsUnder, under-first, under-next}
+use Rattle.run.proofs.Limits.{IsUnder}
 use Rattle.run.proofs.Halts.{next-first, next-after}
 use Rattle.run.specs.Stops.{NextStop}
 use Rattle.line.specs.Values.{lineIn, trainIn}
-use Rattle.rules.proofs.Count.{length-row, entry-row}
 use Rattle.rules.proofs.Fill.{Filled, fill-none, fill-up, fill-done}
-use Rattle.rules.specs.Count.{entry, row}
 use Rattle.rules.specs.Run.{forward}
-use mathlib.Core.Path.{_≡_, refl, sym, ap, _∙_}
+use mathlib.Core.Path.{_≡_, ap, _∙_}
 use Prim.Native.Nat.{_≤_, _-_}
 use native.Mathlib.Omega.{arith}
 use borrow.Author.Needs.{needs}

@@ -1,4 +1,3 @@
-use mathlib.Core.Path.{_≡_}
 use borrow.Author.Tests.{lt-ltb, le-ltb, le-leb, lt-leb}
 use Rattle.run.specs.Walk.{nextBegun}
 use Rattle.rules.specs.Count.{_and_}

@@ -1,6 +1,6 @@
 use native.Mathlib.Omega.{arith}
 use Prim.Native.Nat.{_<_}
-use mathlib.Core.Path.{_≡_, sym, ap, _∙_}
+use mathlib.Core.Path.{sym, ap, _∙_}
 use Rattle.run.specs.Walk.{nextBegun}
 use Rattle.run.proofs.Limits.{next-below}
 use borrow.Author.Needs.{needs}
