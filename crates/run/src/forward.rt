@@ -55,6 +55,7 @@ pub(crate) fn write_forward(line: Line, train: Train, speeds: &mut [u32])
         lowest,
     };
     let mut next = 0;
+    // The step from the greatest squared speed is at least any cap, so point 0 gets its cap.
     let mut w = SquaredSpeed(900000000);
     let mut i = 0;
     while i < points {
