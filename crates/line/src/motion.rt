@@ -1,4 +1,4 @@
-// Numbers of a train on a line that its run and its holds go by, whatever the two hold.
+// Numbers of a train on a line that rule 9, its run and its holds go by, whatever the two hold.
 use crate::decoded::Line;
 use crate::decoded::Train;
 use widths::size;

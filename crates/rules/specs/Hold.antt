@@ -16,7 +16,7 @@ pub record Hold : Type 0 where
   pub begins : List ℕ
   pub ends : List ℕ
 
--- a record of no blocks: 0 at every place
+-- a record of no blocks, 0 at every place: what a refused hold call gives, and what stands past the end of a list of records
 abbrev pub emptyHold : Hold
 emptyHold = record { blocks = 0; begins = replicate 32 0; ends = replicate 32 0 }
 
