@@ -3,3 +3,4 @@ pub mod Reading
 pub mod Walk
 pub mod Checks
 pub mod Opening
+pub mod Callers

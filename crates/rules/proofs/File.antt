@@ -12,7 +12,7 @@ use lib.Dec.{leb}
 use lib.ListN.{length}
 use borrow.Author.Tests.{le-leb, lt-leb, leb-true, leb-false}
 use Rattle.rules.specs.Count.{entry}
-use Rattle.rules.specs.File.{word, words, sizesEnd, limitCount, blockCount, trainCount, trainsAt, bandCount, stopCount, recordEnd, recordAt, announcedEnd}
+use Rattle.rules.specs.File.{AreBytes, word, words, sizesEnd, limitCount, blockCount, trainCount, trainsAt, bandCount, stopCount, recordEnd, recordAt, announcedEnd}
 use Rattle.rules.specs.Reading.{Reading, endsEarly, readTo, have, readTrains, readFile}
 use Rattle.rules.specs.Line.{lineOf, trainAt}
 use Rattle.rules.specs.Refusal.{whole, nothingAfter}
@@ -25,10 +25,6 @@ use Rattle.rules.proofs.Count.{length-row, entry-row}
 pub word-is : (file : List ℕ) (place n : ℕ) → entry file place ≡ n % 256 → entry file (place + 1) ≡ n / 256 → word file place ≡ n
 unfolding word
 word-is file place n l h = omega arith
-
--- the file's bytes are bytes
-abbrev pub AreBytes : List ℕ → Type 0
-AreBytes file = (i : ℕ) → entry file i < 256
 
 pub word-most : (file : List ℕ) → AreBytes file → (place : ℕ) → word file place < 65536
 unfolding word

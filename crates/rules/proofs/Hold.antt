@@ -12,7 +12,7 @@ use lib.ListN.{length, List·getD-eq-default}
 use lib.Seq.{ext-getD}
 use borrow.Author.Tests.{leb-true, le-leb, lt-leb, lt-ltb, le-ltb}
 use Rattle.rules.specs.Count.{entry, row}
-use Rattle.rules.specs.File.{trainCount}
+use Rattle.rules.specs.File.{AreBytes, trainCount}
 use Rattle.rules.specs.Line.{Line, Train, lineOf, trainOf}
 use Rattle.rules.specs.Run.{brakingLoss, trainCells, runRow}
 use Rattle.rules.specs.Hold.{approachPoint, holdBegin, holdEnd, blockPlaces, holdWith, holdOf}
@@ -21,7 +21,7 @@ use Rattle.rules.specs.Admitted.{Admitted, Rule14}
 use Rattle.rules.specs.Meaning.{Brakes, IsApproachPoint, IsHold}
 use Rattle.rules.proofs.Count.{rises-far, length-row, entry-row, last-passes, last-none, last-at-most, last-agree}
 use Rattle.rules.proofs.Fill.{Filled}
-use Rattle.rules.proofs.File.{AreBytes, word-most}
+use Rattle.rules.proofs.File.{word-most}
 use Rattle.rules.proofs.Refusal.{admitted}
 use Rattle.rules.proofs.Time.{departs-before, arrival-most}
 

@@ -21,4 +21,6 @@ pub mod Decimal
 pub mod Text
 pub mod Written
 pub mod Lengths
+pub mod Studies
+pub mod Room
 pub mod Sample

@@ -7,7 +7,7 @@ use native.Mathlib.Nat.{add-zero, zero-add}
 use native.Mathlib.Omega.{arith}
 use lib.ListN.{length, getD, take, length-take}
 use borrow.Author.Tests.{le-leb, lt-leb, eq-eqb, ne-eqb}
-use Rattle.rules.specs.File.{trainCount}
+use Rattle.rules.specs.File.{AreBytes, trainCount}
 use Rattle.rules.specs.Line.{lineOf, trainOf}
 use Rattle.rules.specs.Hold.{emptyHold, holdOf}
 use Rattle.rules.specs.Sheet.{fresh}
@@ -15,7 +15,6 @@ use Rattle.rules.specs.Refusal.{firstBroken}
 use Rattle.rules.specs.Calls.{Answer, accepted, refused, fileRefusal}
 use Rattle.rules.specs.Demand.{starts, refusalOf, LeastStarts}
 use Rattle.rules.specs.Text.{header, refusalText, joined, holdsFrom, fileAnswers, lineOfTrain, sheetText, programText}
-use Rattle.rules.proofs.File.{AreBytes}
 use Rattle.rules.proofs.Refusal.{line-sizes}
 use Rattle.rules.proofs.Hold.{file-hold}
 use Rattle.rules.proofs.Sheet.{rule-13, rule-14}

@@ -1,8 +1,12 @@
 -- Document 01, "Units and the file": where each number of the file stands. `file` is the list of the file's bytes.
-use Prim.Native.Nat.{ℕ, zero, suc, _+_, _*_}
+use Prim.Native.Nat.{ℕ, zero, suc, _+_, _*_, _<_}
 use mathlib.Core.List.{List}
 use lib.ListN.{take, drop}
 use Rattle.rules.specs.Count.{entry, row}
+
+-- each of its numbers is a byte's
+abbrev pub AreBytes : List ℕ → Type 0
+AreBytes file = (i : ℕ) → entry file i < 256
 
 -- The unsigned 16-bit number at a byte place, low byte first. A byte past the end of the file counts as 0.
 unfoldable pub word : List ℕ → ℕ → ℕ
