@@ -219,17 +219,22 @@ def short_buffers(cases, rng):
         cases.line(line, [(0, a, b) for a, b in lengths] + [(1, 0, 0), (1, P - 1, P)])
 
 
-def broken_rules(cases, rng):
-    """Rules 3 to 9 broken, alone and two at a time."""
+def broken_lines(rng, alone, twice):
+    """Lines that break rules 3 to 9: of each rule so many that break it alone, and so many with another."""
     base = roomy(rng, 3)
     changes = {}
     for change in list(changes_of_line(base)) + [c for k in range(3) for c in changes_of_train(base, k)]:
         changes.setdefault(change[0], []).append(change[1])
     for rule in range(3, 10):
-        for change in rng.sample(changes[rule], min(16, len(changes[rule]))):
-            cases.line(changed(base, change))
-        for _ in range(4):
-            cases.line(changed(base, rng.choice(changes[rng.randint(3, 9)]), rng.choice(changes[rule])))
+        for change in rng.sample(changes[rule], min(alone, len(changes[rule]))):
+            yield changed(base, change)
+        for _ in range(twice):
+            yield changed(base, rng.choice(changes[rng.randint(3, 9)]), rng.choice(changes[rule]))
+
+
+def broken_rules(cases, rng):
+    for line in broken_lines(rng, 16, 4):
+        cases.line(line)
 
 
 def main():
