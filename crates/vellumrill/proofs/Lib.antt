@@ -1,0 +1,3 @@
+pub mod Records
+pub mod Machine
+pub mod Numbers

@@ -1,0 +1,55 @@
+// The answers of the sheet's calls in numbers alone.
+use crate::Added;
+use crate::HeadwayAnswer;
+use sheet::Answer;
+use sheet::HoldRecord;
+use sheet::Sheet;
+ghost use mathlib.Core.Path.{_≡_};
+ghost use Rattle.rules.specs.Calls.{added, headway};
+ghost use Rattle.sheet.specs.Values.{asHold, asSheet, asAnswer};
+ghost use Rattle.vellumrill.specs.Answers.{addedByNumber, headwayByNumber};
+
+// The answer of an adding call, and the sheet as the call leaves it.
+pub(crate) struct Step {
+    pub answer: Added,
+    pub sheet: Sheet,
+}
+
+fn added_by_number(answer: Answer) -> Added
+    ensures { λ r. ⌜ r ≡ addedByNumber (asAnswer answer) ⌝ }
+{
+    match answer {
+        Answer::Accepted { start, block } => Added {
+            number: 0,
+            start,
+            block,
+        },
+        Answer::Refused(number) => Added {
+            number,
+            start: 0,
+            block: 0,
+        },
+    }
+}
+
+pub(crate) fn step_by_number(sheet: Sheet, hold: HoldRecord) -> Step
+    ensures { λ r. ⌜ (r .answer ≡ addedByNumber (added (asSheet sheet) (asHold hold) .answer)) × (asSheet (r .sheet) ≡ added (asSheet sheet) (asHold hold) .sheet) ⌝ }
+{
+    let done = sheet::with_hold(sheet, hold);
+    let after = done.sheet;
+    let answer = done.answer;
+    Step {
+        answer: added_by_number(answer),
+        sheet: after,
+    }
+}
+
+pub(crate) fn headway_by_number(first: HoldRecord, second: HoldRecord) -> HeadwayAnswer
+    ensures { λ r. ⌜ r ≡ headwayByNumber (headway (asHold first) (asHold second)) ⌝ }
+{
+    let answer = sheet::headway(first, second);
+    match answer {
+        sheet::HeadwayAnswer::Headway(headway) => HeadwayAnswer { number: 0, headway },
+        sheet::HeadwayAnswer::Refused(number) => HeadwayAnswer { number, headway: 0 },
+    }
+}

@@ -1,0 +1,121 @@
+/* Vellumrill: running times, block holds and earliest starts for lines under ERTMS Level 2.
+ *
+ * The calls of target/staticlib/libvellumrill.a, which `rt staticlib vellumrill` builds for x86-64 Linux. The rules
+ * are document 01; each call is proved against them (crates/vellumrill/src/lib.rt has the contracts).
+ *
+ * `file` and `len` are the bytes of a line file, and train k is counted from 0. Times are in microseconds.
+ *
+ * What the caller owes: a pointer with a length is to that many entries, and every other pointer to one value. What a
+ * call may write overlaps nothing else that is lent to it. A pointer with length 0 is not followed, and may be null.
+ * Nothing is asked of the values: files, buffers, sheets and hold records may hold anything.
+ *
+ * Every answer has a number. 0 means accepted; any other is the first broken rule in checking order:
+ *
+ *    1  the file ends before something that its sizes announce
+ *    2  bytes follow the last announced train
+ *    3  a size, a class or a length is beyond its limits
+ *    4  limit points do not begin at 0, do not rise, or pass the last cell
+ *    5  a limit is not 1 to 300 km/h
+ *    6  blocks do not begin at 0, do not end after their start, overlap, or pass the last point
+ *    7  band tops do not rise within 1 to 300 km/h, or a rate is not 1 to 200 cm/s2
+ *    8  stops are less than two points apart or pass the last point, or a dwell is above 3,600 s
+ *    9  a train has no room behind the last block
+ *   10  the file has no train k
+ *   11  a lent buffer has fewer entries than the line has points
+ *   12  a block count is not 1 to 32, or the sheet has more than 64 trains, or a free time above trains times 2^44
+ *   13  the sheet has 64 trains
+ *   14  the hold record has another block count than the sheet, a hold that is empty, or an end above 2^44
+ */
+#ifndef VELLUMRILL_H
+#define VELLUMRILL_H
+
+#include <stddef.h>
+#include <stdint.h>
+
+#ifdef __cplusplus
+extern "C" {
+#endif
+
+/* When the hold of each block begins and ends, from the train's start on. Places beyond `blocks` are not used. */
+typedef struct vr_hold_record {
+    uint64_t blocks;
+    uint64_t begins[32];
+    uint64_t ends[32];
+} vr_hold_record;
+
+/* The sheet of starts: for each block when it is free again. Places beyond `blocks` are not used. */
+typedef struct vr_sheet {
+    uint64_t blocks;
+    uint64_t trains;
+    uint64_t free[32];
+} vr_sheet;
+
+typedef struct vr_hold_answer {
+    uint64_t number;
+    vr_hold_record hold;
+} vr_hold_answer;
+
+typedef struct vr_opened {
+    uint64_t number;
+    vr_sheet sheet;
+} vr_opened;
+
+typedef struct vr_added {
+    uint64_t number;
+    uint64_t start;
+    uint64_t block;
+} vr_added;
+
+typedef struct vr_headway_answer {
+    uint64_t number;
+    uint64_t headway;
+} vr_headway_answer;
+
+/* Checks a file.
+ * Returns 0, or the number of refusal by rules 1 to 9. Writes nothing. */
+uint8_t vr_check_file(const uint8_t *file, size_t len);
+
+/* Checks a file and a train number.
+ * Returns 0, or the number of refusal by rules 1 to 10. Writes nothing. */
+uint8_t vr_check_train(const uint8_t *file, size_t len, uint64_t k);
+
+/* Finds the record of train k, from its class to its last dwell (or last rate, if it has no stops).
+ * Returns 0, or the number of refusal by rules 1 to 10. Writes the record's first byte, counted from the file's, to
+ * `start` and its count of bytes to `length`. A refusal writes 0 to both. */
+uint8_t vr_train_record(const uint8_t *file, size_t len, uint64_t k, uint64_t *start, uint64_t *length);
+
+/* Computes the run of train k.
+ * Returns 0, or the number of refusal by rules 1 to 11. Of a line with P points it writes the P squared speeds to
+ * `speeds`, in squares of hundredths of a km/h, and the P arrivals to `times`; entries from P on are kept. No permitted
+ * row of speeds reaches a point before these. 4,096 entries are enough for every file. A refusal keeps every entry. */
+uint8_t vr_run(const uint8_t *file, size_t len, uint64_t k, uint32_t *speeds, size_t ns, uint64_t *times, size_t nt);
+
+/* Computes the run and the block holds of train k.
+ * Returns the number 0 and the hold record, in which places beyond the block count are 0; or the number of refusal by
+ * rules 1 to 11 and a record of zeros. Writes to `speeds` and `times` what vr_run writes. A refusal keeps every
+ * entry. */
+vr_hold_answer vr_hold(const uint8_t *file, size_t len, uint64_t k, uint32_t *speeds, size_t ns, uint64_t *times,
+                       size_t nt);
+
+/* Opens a sheet of starts for a line with so many blocks.
+ * Returns the number 0 and a sheet with no trains and every block free at 0; or the number 12 and a sheet of zeros.
+ * Writes nothing. Trains added to an opened sheet never overlap in a block, and none could start sooner in that
+ * order. */
+vr_opened vr_open(uint64_t blocks);
+
+/* Adds a train to a sheet.
+ * Returns the number 0, the least start, and the first block that binds it, counted from 1, or block 0 if the start is
+ * 0; or the number of refusal by rules 12 to 14 with start 0 and block 0. Writes to the sheet that the train is there
+ * and when each block is free again; places beyond the block count are kept. A refusal leaves the sheet as it was. */
+vr_added vr_add(vr_sheet *sheet, const vr_hold_record *hold);
+
+/* The headway of two trains: the second's start on a sheet of these two. The two pointers may be the same.
+ * Returns the number 0 and the headway; or the first number of refusal met, by rules 12 to 14, and headway 0. Writes
+ * nothing. */
+vr_headway_answer vr_headway(const vr_hold_record *first, const vr_hold_record *second);
+
+#ifdef __cplusplus
+}
+#endif
+
+#endif
