@@ -1,0 +1,170 @@
+/* Asks the library every call for each question read from standard input, with exactly sized memory from the heap, and
+   prints the answers: a line for each call with its name and numbers, and an empty line after each question.
+
+   A question is four numbers of 8 bytes, low byte first: the file's length, the train number, the lengths of the buffers
+   for speeds and times. The file's bytes follow. Of a buffer the entries are printed up to the last one written, and
+   their count before them. */
+#include "vellumrill.h"
+
+#include <inttypes.h>
+#include <stdint.h>
+#include <stdio.h>
+#include <stdlib.h>
+#include <string.h>
+
+enum { PATTERN = 0xA5, PLACES = 32 };
+
+struct question {
+    uint64_t length, k, speeds_length, times_length;
+    uint8_t *file;
+    uint32_t *speeds;
+    uint64_t *times;
+};
+
+/* Null for no bytes: the library must not follow it. */
+static void *filled(size_t bytes)
+{
+    if (bytes == 0)
+        return NULL;
+    void *memory = malloc(bytes);
+    if (memory == NULL)
+        exit(2);
+    memset(memory, PATTERN, bytes);
+    return memory;
+}
+
+static void read_exactly(void *target, size_t bytes)
+{
+    if (bytes > 0 && fread(target, 1, bytes, stdin) != bytes)
+        exit(2);
+}
+
+static int read_question(struct question *asked)
+{
+    uint64_t head[4];
+    if (fread(head, sizeof head, 1, stdin) != 1)
+        return 0;
+    asked->length = head[0];
+    asked->k = head[1];
+    asked->speeds_length = head[2];
+    asked->times_length = head[3];
+    asked->file = filled(asked->length);
+    read_exactly(asked->file, asked->length);
+    return 1;
+}
+
+static void lend_buffers(struct question *asked)
+{
+    asked->speeds = filled(asked->speeds_length * sizeof *asked->speeds);
+    asked->times = filled(asked->times_length * sizeof *asked->times);
+}
+
+static void print_numbers(const uint64_t *numbers, size_t count)
+{
+    for (size_t i = 0; i < count; i++)
+        printf(" %" PRIu64, numbers[i]);
+}
+
+static void print_speeds(const uint32_t *speeds, size_t count)
+{
+    uint32_t untouched;
+    memset(&untouched, PATTERN, sizeof untouched);
+    while (count > 0 && speeds[count - 1] == untouched)
+        count--;
+    printf(" %zu", count);
+    for (size_t i = 0; i < count; i++)
+        printf(" %" PRIu32, speeds[i]);
+}
+
+static void print_times(const uint64_t *times, size_t count)
+{
+    uint64_t untouched;
+    memset(&untouched, PATTERN, sizeof untouched);
+    while (count > 0 && times[count - 1] == untouched)
+        count--;
+    printf(" %zu", count);
+    print_numbers(times, count);
+}
+
+static void take_back_buffers(struct question *asked)
+{
+    print_speeds(asked->speeds, asked->speeds_length);
+    print_times(asked->times, asked->times_length);
+    printf("\n");
+    free(asked->speeds);
+    free(asked->times);
+}
+
+static void print_sheet(const vr_sheet *sheet)
+{
+    printf(" %" PRIu64 " %" PRIu64, sheet->blocks, sheet->trains);
+    print_numbers(sheet->free, PLACES);
+    printf("\n");
+}
+
+static void ask_checks(const struct question *asked)
+{
+    uint64_t *start = filled(sizeof *start);
+    uint64_t *length = filled(sizeof *length);
+    printf("check_file %u\n", vr_check_file(asked->file, asked->length));
+    printf("check_train %u\n", vr_check_train(asked->file, asked->length, asked->k));
+    printf("train_record %u", vr_train_record(asked->file, asked->length, asked->k, start, length));
+    printf(" %" PRIu64 " %" PRIu64 "\n", *start, *length);
+    free(start);
+    free(length);
+}
+
+static void ask_run(struct question *asked)
+{
+    lend_buffers(asked);
+    printf("run %u", vr_run(asked->file, asked->length, asked->k,
+                            asked->speeds, asked->speeds_length, asked->times, asked->times_length));
+    take_back_buffers(asked);
+}
+
+/* The hold record is on the heap: the caller frees it. */
+static vr_hold_record *ask_hold(struct question *asked)
+{
+    vr_hold_record *hold = filled(sizeof *hold);
+    lend_buffers(asked);
+    vr_hold_answer answer = vr_hold(asked->file, asked->length, asked->k,
+                                    asked->speeds, asked->speeds_length, asked->times, asked->times_length);
+    *hold = answer.hold;
+    printf("hold %" PRIu64 " %" PRIu64, answer.number, hold->blocks);
+    print_numbers(hold->begins, PLACES);
+    print_numbers(hold->ends, PLACES);
+    take_back_buffers(asked);
+    return hold;
+}
+
+static void ask_sheet(const vr_hold_record *hold)
+{
+    vr_sheet *sheet = filled(sizeof *sheet);
+    vr_opened opened = vr_open(hold->blocks);
+    *sheet = opened.sheet;
+    printf("open %" PRIu64, opened.number);
+    print_sheet(sheet);
+    for (int i = 0; i < 2; i++) {
+        vr_added added = vr_add(sheet, hold);
+        printf("add %" PRIu64 " %" PRIu64 " %" PRIu64, added.number, added.start, added.block);
+        print_sheet(sheet);
+    }
+    vr_headway_answer headway = vr_headway(hold, hold);
+    printf("headway %" PRIu64 " %" PRIu64 "\n", headway.number, headway.headway);
+    free(sheet);
+}
+
+int main(void)
+{
+    struct question asked;
+    while (read_question(&asked)) {
+        ask_checks(&asked);
+        ask_run(&asked);
+        vr_hold_record *hold = ask_hold(&asked);
+        ask_sheet(hold);
+        printf("\n");
+        free(hold);
+        free(asked.file);
+    }
+    return 0;
+}

@@ -1,0 +1,193 @@
+"""The library for C, called from Python, with checks of all memory that is lent to it.
+
+The shared object is linked from the archive that `rt staticlib vellumrill` writes. Every lent buffer is filled with a
+pattern first and has guard entries behind it; the highest byte of a squared speed or a time is never that of the pattern.
+"""
+import ctypes
+import subprocess
+import sys
+from ctypes import POINTER, Structure, c_size_t, c_uint8, c_uint32, c_uint64
+from pathlib import Path
+
+TOP_FOLDER = Path(__file__).resolve().parent.parent
+sys.path.insert(0, str(TOP_FOLDER / "tests" / "calculator"))
+
+ARCHIVE = TOP_FOLDER / "target" / "staticlib" / "libvellumrill.a"
+SHARED_OBJECT = TOP_FOLDER / "target" / "libvellumrill.so"
+INCLUDE = TOP_FOLDER / "include"
+
+PLACES = 32
+GUARDS = 8                              # entries behind each lent buffer
+PATTERN = 0xA5                          # of each byte
+
+
+class HoldRecord(Structure):
+    _fields_ = [("blocks", c_uint64), ("begins", c_uint64 * PLACES), ("ends", c_uint64 * PLACES)]
+
+
+class Sheet(Structure):
+    _fields_ = [("blocks", c_uint64), ("trains", c_uint64), ("free", c_uint64 * PLACES)]
+
+
+class HoldAnswer(Structure):
+    _fields_ = [("number", c_uint64), ("hold", HoldRecord)]
+
+
+class Opened(Structure):
+    _fields_ = [("number", c_uint64), ("sheet", Sheet)]
+
+
+class Added(Structure):
+    _fields_ = [("number", c_uint64), ("start", c_uint64), ("block", c_uint64)]
+
+
+class HeadwayAnswer(Structure):
+    _fields_ = [("number", c_uint64), ("headway", c_uint64)]
+
+
+FILE = [POINTER(c_uint8), c_size_t]
+BUFFERS = [POINTER(c_uint32), c_size_t, POINTER(c_uint64), c_size_t]
+CALLS = {
+    "vr_check_file": (c_uint8, FILE),
+    "vr_check_train": (c_uint8, FILE + [c_uint64]),
+    "vr_train_record": (c_uint8, FILE + [c_uint64, POINTER(c_uint64), POINTER(c_uint64)]),
+    "vr_run": (c_uint8, FILE + [c_uint64] + BUFFERS),
+    "vr_hold": (HoldAnswer, FILE + [c_uint64] + BUFFERS),
+    "vr_open": (Opened, [c_uint64]),
+    "vr_add": (Added, [POINTER(Sheet), POINTER(HoldRecord)]),
+    "vr_headway": (HeadwayAnswer, [POINTER(HoldRecord), POINTER(HoldRecord)]),
+}
+
+
+class Touched(Exception):
+    """Memory was written that the call must leave alone."""
+
+
+def need_archive():
+    if not ARCHIVE.exists():
+        sys.exit("%s is not there: run `rt staticlib vellumrill`" % ARCHIVE.relative_to(TOP_FOLDER))
+
+
+def link_shared_object():
+    """Links the archive into a shared object, if that is older than the archive."""
+    need_archive()
+    if SHARED_OBJECT.exists() and SHARED_OBJECT.stat().st_mtime >= ARCHIVE.stat().st_mtime:
+        return
+    subprocess.run(["gcc", "-shared", "-o", str(SHARED_OBJECT), "-Wl,--whole-archive", str(ARCHIVE),
+                    "-Wl,--no-whole-archive"], check=True)
+
+
+def untouched(what, kept):
+    if not kept:
+        raise Touched(what)
+
+
+class Library:
+    """The eight calls. Each checks the memory that it lends and raises Touched."""
+
+    def __init__(self, path=None):
+        if path is None:
+            link_shared_object()
+            path = SHARED_OBJECT
+        loaded = ctypes.CDLL(str(Path(path).resolve()))
+        for name, (result, arguments) in CALLS.items():
+            call = getattr(loaded, name)
+            call.restype, call.argtypes = result, arguments
+            setattr(self, name[len("vr_"):] + "_in_c", call)
+
+    # ---- files
+
+    def check_file(self, data):
+        file = lent_file(data)
+        number = self.check_file_in_c(file, len(data))
+        untouched("file", bytes(file) == data)
+        return number
+
+    def check_train(self, data, k):
+        file = lent_file(data)
+        number = self.check_train_in_c(file, len(data), k)
+        untouched("file", bytes(file) == data)
+        return number
+
+    def train_record(self, data, k):
+        """The number, the start and the length."""
+        file = lent_file(data)
+        start, length = c_uint64(PATTERN), c_uint64(PATTERN)
+        number = self.train_record_in_c(file, len(data), k, start, length)
+        untouched("file", bytes(file) == data)
+        return number, start.value, length.value
+
+    def run(self, data, k, speeds_length, times_length):
+        """The number, and the entries written to both buffers."""
+        lent = Lent(data, speeds_length, times_length)
+        number = self.run_in_c(*lent.arguments(k))
+        return number, *lent.written(number)
+
+    def hold(self, data, k, speeds_length, times_length):
+        """The number, the hold record, and the entries written to both buffers."""
+        lent = Lent(data, speeds_length, times_length)
+        answer = self.hold_in_c(*lent.arguments(k))
+        return answer.number, answer.hold, *lent.written(answer.number)
+
+    # ---- sheets
+
+    def open(self, blocks):
+        """The number and the sheet."""
+        answer = self.open_in_c(blocks)
+        return answer.number, answer.sheet
+
+    def add(self, sheet, hold):
+        """The number, the start and the block; the sheet is altered where it lies."""
+        before, hold_before = bytes(sheet), bytes(hold)
+        answer = self.add_in_c(sheet, hold)
+        untouched("hold record", bytes(hold) == hold_before)
+        untouched("sheet on a refusal", answer.number == 0 or bytes(sheet) == before)
+        return answer.number, answer.start, answer.block
+
+    def headway(self, first, second):
+        """The number and the headway."""
+        before = bytes(first), bytes(second)
+        answer = self.headway_in_c(first, second)
+        untouched("hold record", (bytes(first), bytes(second)) == before)
+        return answer.number, answer.headway
+
+
+class Lent:
+    """A file and two buffers, as they are lent to a call."""
+
+    def __init__(self, data, speeds_length, times_length):
+        self.data = data
+        self.file = lent_file(data)
+        self.speeds_length, self.times_length = speeds_length, times_length
+        self.speeds = filled(c_uint32, speeds_length)
+        self.times = filled(c_uint64, times_length)
+
+    def arguments(self, k):
+        return self.file, len(self.data), k, self.speeds, self.speeds_length, self.times, self.times_length
+
+    def written(self, number):
+        """The entries written to both buffers, none on a refusal, after a check that nothing else was written."""
+        untouched("file", bytes(self.file) == self.data)
+        speeds = written_entries(self.speeds, self.speeds_length)
+        times = written_entries(self.times, self.times_length)
+        untouched("buffers on a refusal", number == 0 or not speeds and not times)
+        return speeds, times
+
+
+def lent_file(data):
+    return (c_uint8 * len(data)).from_buffer_copy(data)
+
+
+def filled(kind, length):
+    """A buffer of this length and the guards behind it, every byte of the pattern."""
+    buffer = (kind * (length + GUARDS))()
+    ctypes.memset(buffer, PATTERN, ctypes.sizeof(buffer))
+    return buffer
+
+
+def written_entries(buffer, length):
+    """The entries before those that keep the pattern to the end."""
+    size = ctypes.sizeof(buffer._type_)
+    count = -(-len(bytes(buffer).rstrip(bytes([PATTERN]))) // size)
+    untouched("entries behind a buffer", count <= length)
+    return buffer[:count]
