@@ -1,0 +1,156 @@
+//! The run of a train: squared speeds by two sweeps, then arrivals.
+
+use crate::line::{Line, Train, Words};
+use crate::Refusal;
+
+const SECOND: u64 = 1_000_000;
+
+fn squared(kmh: usize) -> u32 {
+    let speed = 100 * kmh as u32;
+    speed * speed
+}
+
+/// The squared speed that a band gains over one cell, and the one that it ends at.
+#[derive(Clone, Copy, Default)]
+struct Band {
+    gain: u32,
+    most: u32,
+}
+
+struct Bands {
+    list: [Band; 8],
+    count: usize,
+}
+
+impl Bands {
+    fn of(line: &Line, train: &Train) -> Self {
+        let mut list = [Band::default(); 8];
+        for (band, (top, rate)) in list.iter_mut().zip(train.tops.iter().zip(train.rates.iter())) {
+            *band = Band { gain: (rate * 2592 * line.step) as u32, most: squared(top) };
+        }
+        Bands { list, count: train.tops.len() }
+    }
+
+    fn step(&self, w: u32) -> u32 {
+        self.list[..self.count].iter().map(|band| (w + band.gain).min(band.most)).max().unwrap_or(0)
+    }
+}
+
+/// The lowest limit from the cell of the tail to the cell of the head, as the train moves on.
+struct Under<'a> {
+    points: Words<'a>,
+    limits: Words<'a>,
+    cells: usize,
+    head: usize,
+    tail: usize,
+    lowest: usize,
+}
+
+impl<'a> Under<'a> {
+    fn new(line: &Line<'a>, cells: usize) -> Self {
+        let (points, limits) = (line.limit_points, line.limits);
+        Under { points, limits, cells, head: 0, tail: 0, lowest: limits.get(0) }
+    }
+
+    fn move_to(&mut self, point: usize) {
+        let before = (self.head, self.tail);
+        while self.head + 1 < self.points.len() && self.points.get(self.head + 1) <= point {
+            self.head += 1;
+        }
+        while self.tail < self.head && self.points.get(self.tail + 1) + self.cells <= point {
+            self.tail += 1;
+        }
+        if (self.head, self.tail) != before {
+            let covered = (self.tail..=self.head).map(|j| self.limits.get(j));
+            self.lowest = covered.min().unwrap_or(0);
+        }
+    }
+}
+
+/// The stops as the points pass.
+pub struct Stops<'a> {
+    points: Words<'a>,
+    dwells: Words<'a>,
+    next: usize,
+}
+
+impl<'a> Stops<'a> {
+    pub fn new(train: &Train<'a>) -> Self {
+        Stops { points: train.stops, dwells: train.dwells, next: 0 }
+    }
+
+    /// The dwell in seconds if there is a stop at this point. Points must not fall from call to call.
+    #[inline]
+    pub fn dwell_at(&mut self, point: usize) -> Option<usize> {
+        while self.next < self.points.len() && self.points.get(self.next) < point {
+            self.next += 1;
+        }
+        let here = self.next < self.points.len() && self.points.get(self.next) == point;
+        here.then(|| self.dwells.get(self.next))
+    }
+
+    /// The departure from this point: a dwell at the first or the last point does not count.
+    pub fn departure(&mut self, point: usize, last: usize, arrival: u64) -> u64 {
+        match self.dwell_at(point) {
+            Some(dwell) if 0 < point && point < last => arrival + dwell as u64 * SECOND,
+            _ => arrival,
+        }
+    }
+}
+
+/// Each entry at most its cap and the traction step of the one before.
+fn sweep_forward(line: &Line, train: &Train, speeds: &mut [u32]) {
+    let bands = Bands::of(line, train);
+    let top = train.tops.last().unwrap_or(0);
+    let mut under = Under::new(line, line.cells(train));
+    let mut stops = Stops::new(train);
+    let mut reached = u32::MAX;
+    for (point, speed) in speeds.iter_mut().enumerate() {
+        under.move_to(point);
+        let cap = match stops.dwell_at(point) {
+            Some(_) => 0,
+            None => squared(under.lowest.min(top)),
+        };
+        *speed = cap.min(reached);
+        reached = bands.step(*speed);
+    }
+}
+
+/// Each entry at most the next one plus the braking loss.
+fn sweep_backward(loss: u32, speeds: &mut [u32]) {
+    let mut most = u32::MAX;
+    for speed in speeds.iter_mut().rev() {
+        *speed = most.min(*speed);
+        most = *speed + loss;
+    }
+}
+
+fn write_arrivals(line: &Line, train: &Train, speeds: &[u32], times: &mut [u64]) {
+    let distance = 720_000_000 * line.step as u64;
+    let last = line.points - 1;
+    let mut stops = Stops::new(train);
+    let mut root = u64::from(speeds[0]).isqrt();
+    let mut arrival = 0;
+    for point in 0..last {
+        times[point] = arrival;
+        let next_root = u64::from(speeds[point + 1]).isqrt();
+        arrival = stops.departure(point, last, arrival) + distance.div_ceil(root + next_root);
+        root = next_root;
+    }
+    times[last] = arrival;
+}
+
+/// Writes the run into the first entries of both buffers; rule 11 if one is too short.
+pub fn write_run(line: &Line, train: &Train, speeds: &mut [u32], times: &mut [u64]) -> Result<(), Refusal> {
+    let speeds = speeds.get_mut(..line.points).ok_or(11)?;
+    let times = times.get_mut(..line.points).ok_or(11)?;
+    sweep_forward(line, train, speeds);
+    sweep_backward(line.braking_loss(train), speeds);
+    write_arrivals(line, train, speeds, times);
+    Ok(())
+}
+
+pub fn run(file: &[u8], k: u64, speeds: &mut [u32], times: &mut [u64]) -> Result<(), Refusal> {
+    let line = Line::open(file)?;
+    write_run(&line, line.train(k)?, speeds, times)
+}

@@ -1,0 +1,99 @@
+//! The plain program under the names of the library for C, so that the tests can be tried against it.
+
+use plain::{HoldRecord, Refusal, Sheet};
+use std::slice;
+
+#[repr(C)]
+pub struct HoldAnswer {
+    number: u64,
+    hold: HoldRecord,
+}
+
+#[repr(C)]
+pub struct Opened {
+    number: u64,
+    sheet: Sheet,
+}
+
+#[repr(C)]
+pub struct Added {
+    number: u64,
+    start: u64,
+    block: u64,
+}
+
+#[repr(C)]
+pub struct HeadwayAnswer {
+    number: u64,
+    headway: u64,
+}
+
+/// What is lent; a pointer with length 0 may be null.
+unsafe fn lent<'a, T>(at: *const T, len: usize) -> &'a [T] {
+    if len == 0 { &[] } else { slice::from_raw_parts(at, len) }
+}
+
+unsafe fn lent_to_write<'a, T>(at: *mut T, len: usize) -> &'a mut [T] {
+    if len == 0 { &mut [] } else { slice::from_raw_parts_mut(at, len) }
+}
+
+/// The number of the answer, 0 if it is accepted, and its value, all zero if it is refused.
+fn split<T: Default>(answer: Result<T, Refusal>) -> (Refusal, T) {
+    match answer {
+        Ok(value) => (0, value),
+        Err(number) => (number, T::default()),
+    }
+}
+
+#[no_mangle]
+pub unsafe extern "C" fn vr_check_file(file: *const u8, len: usize) -> u8 {
+    split(plain::check_file(lent(file, len))).0
+}
+
+#[no_mangle]
+pub unsafe extern "C" fn vr_check_train(file: *const u8, len: usize, k: u64) -> u8 {
+    split(plain::check_train(lent(file, len), k)).0
+}
+
+#[no_mangle]
+pub unsafe extern "C" fn vr_train_record(file: *const u8, len: usize, k: u64, start: &mut u64, length: &mut u64) -> u8 {
+    let (number, part) = split(plain::train_record(lent(file, len), k));
+    *start = part.start as u64;
+    *length = part.len() as u64;
+    number
+}
+
+#[no_mangle]
+pub unsafe extern "C" fn vr_run(
+    file: *const u8, len: usize, k: u64, speeds: *mut u32, ns: usize, times: *mut u64, nt: usize,
+) -> u8 {
+    let (speeds, times) = (lent_to_write(speeds, ns), lent_to_write(times, nt));
+    split(plain::run(lent(file, len), k, speeds, times)).0
+}
+
+#[no_mangle]
+pub unsafe extern "C" fn vr_hold(
+    file: *const u8, len: usize, k: u64, speeds: *mut u32, ns: usize, times: *mut u64, nt: usize,
+) -> HoldAnswer {
+    let (speeds, times) = (lent_to_write(speeds, ns), lent_to_write(times, nt));
+    let (number, hold) = split(plain::hold(lent(file, len), k, speeds, times));
+    HoldAnswer { number: number.into(), hold }
+}
+
+#[no_mangle]
+pub extern "C" fn vr_open(blocks: u64) -> Opened {
+    let (number, sheet) = split(Sheet::open(blocks));
+    Opened { number: number.into(), sheet }
+}
+
+#[no_mangle]
+pub extern "C" fn vr_add(sheet: &mut Sheet, hold: &HoldRecord) -> Added {
+    let (number, (start, block)) = split(sheet.add(hold));
+    Added { number: number.into(), start, block }
+}
+
+#[no_mangle]
+pub extern "C" fn vr_headway(first: &HoldRecord, second: &HoldRecord) -> HeadwayAnswer {
+    let (number, headway) = split(plain::headway(first, second));
+    HeadwayAnswer { number: number.into(), headway }
+}
