@@ -21,3 +21,14 @@ pub(crate) fn root(w: SquaredSpeed) -> Speed
     }
     Speed(r)
 }
+
+// The root of `next`, where the root of w is at hand.
+pub(crate) fn root_after(w: SquaredSpeed, r: Speed, next: SquaredSpeed) -> Speed
+    requires { ⌜ (r .0 ≡ rootOf (w .0)) × (r .0 ≤ 65535) ⌝ }
+    ensures { λ s. ⌜ (s .0 ≡ rootOf (next .0)) × (s .0 ≤ 65535) ⌝ }
+{
+    if next.0 == w.0 {
+        return r;
+    }
+    root(next)
+}

@@ -1,5 +1,6 @@
 // The running times: cell times and dwells added up from point to point.
 use crate::root::root;
+use crate::root::root_after;
 use crate::speed::Speed;
 use crate::speed::SquaredSpeed;
 use line::Line;
@@ -78,7 +79,7 @@ pub(crate) fn write_times(line: Line, train: Train, speeds: &[u32], times: &mut 
     while i < last {
         times[i] = time;
         let passing = pass_point(&train.halts, &train.dwells, train.stops, next, i);
-        let there = root(SquaredSpeed(speeds[i + 1]));
+        let there = root_after(SquaredSpeed(speeds[i]), here, SquaredSpeed(speeds[i + 1]));
         time = time + passing.dwell + cell_time(wide64(line.step), here, there);
         next = passing.next;
         here = there;

@@ -1,9 +1,10 @@
 use Prim.Native.Nat.{_+_, _-_, _≤_, _<_}
-use mathlib.Core.Path.{_≡_, refl}
+use mathlib.Core.Path.{_≡_, refl, sym, ap, _∙_}
 use native.Mathlib.Omega.{arith}
 use lib.ListN.{length-set}
 use Rattle.rules.specs.Count.{entry}
 use Rattle.rules.specs.Run.{runRow}
+use Rattle.rules.specs.Time.{root}
 use Rattle.rules.proofs.Count.{length-row}
 use Rattle.line.specs.Values.{lineIn, trainIn}
 use Rattle.run.proofs.Arriving.{Arrived, arrived-first, arrived-next, arrived-last, roots-move, clock-most}
@@ -27,6 +28,10 @@ ahead c = omega (arith, c .before .before .before .before .size .ensures .0)
 
 speed-ahead : (c : tie.In-loop Inv-loop μ-loop) → entry (start c .args .speeds .now) (c .before .loop .i + 1) ≡ entry (runRow (lineIn (start c .args .line)) (trainIn (start c .args .t2))) (c .before .loop .i + 1)
 speed-ahead c = start c .pre .1 .1 (c .before .loop .i + 1) (ahead c)
+
+-- the root at hand is that of this point's squared speed
+root-here : (c : tie.In-loop Inv-loop μ-loop) → c .before .loop .here .0 ≡ root (entry (start c .args .speeds .now) (c .before .loop .i))
+root-here c = c .before .loop .inv .speed ∙ ap root (sym (start c .pre .1 .1 (c .before .loop .i) (omega (arith, ahead c))))
 
 size-requires : tie.Need-size-requires Inv-loop μ-loop
 size-requires c κs = search needs
@@ -57,30 +62,38 @@ pass-point-requires c κs =
     let few : start o .args .t2 .stops ≤ 32 = rw length-row at (start o .pre .0 .rule3Train .stops-most) in
     ((omega arith, start o .pre .0 .rule8 .apart), o .before .loop .inv .stop)
 
-add-t18 : tie.Need-add-t18 Inv-loop μ-loop
-add-t18 c = search needs
+mul-t18 : tie.Need-mul-t18 Inv-loop μ-loop
+mul-t18 c = search needs
 
-mul-t22 : tie.Need-mul-t22 Inv-loop μ-loop
-mul-t22 c = search needs
+shared-slice-read-t23 : tie.Need-shared-slice-read-t23 Inv-loop μ-loop
+shared-slice-read-t23 c = search needs
 
-shared-slice-read-t24 : tie.Need-shared-slice-read-t24 Inv-loop μ-loop
-shared-slice-read-t24 c = search needs
+add-t25 : tie.Need-add-t25 Inv-loop μ-loop
+add-t25 c = search needs
 
-root-requires-2 : tie.Need-root-requires-2 Inv-loop μ-loop
-root-requires-2 c κs = search needs
+mul-t26 : tie.Need-mul-t26 Inv-loop μ-loop
+mul-t26 c = search needs
+
+shared-slice-read-t28 : tie.Need-shared-slice-read-t28 Inv-loop μ-loop
+shared-slice-read-t28 c = search needs
+
+root-after-requires : tie.Need-root-after-requires Inv-loop μ-loop
+root-after-requires c κs =
+    let o = c .before .before .before .before .before .before in
+    (root-here o, o .before .loop .inv .slow)
 
 add-time : tie.Need-add-time Inv-loop μ-loop
 add-time c =
-    let o = c .before .before .before .before .before .before .before in
-    omega (arith, clock-most _ _ (start o .pre .0) (o .before .loop .inv) (ahead o) (c .before .root2 .ensures .0) (speed-ahead o) (c .before .before .before .pass-point .ensures .0) refl refl)
+    let o = c .before .before .before .before .before .before .before .before in
+    omega (arith, clock-most _ _ (start o .pre .0) (o .before .loop .inv) (ahead o) (c .before .root-after .ensures .0) (speed-ahead o) (c .before .before .before .before .pass-point .ensures .0) refl refl)
 
 wide64-requires : tie.Need-wide64-requires Inv-loop μ-loop
 wide64-requires c κs = search needs
 
 cell-time-requires : tie.Need-cell-time-requires Inv-loop μ-loop
 cell-time-requires c κs =
-    let o = c .before .before .before .before .before .before .before .before in
-    let r = c .before .before .root2 in
+    let o = c .before .before .before .before .before .before .before .before .before in
+    let r = c .before .before .root-after in
     omega (
       arith,
       start o .pre .0 .rule3Line .step-most,
@@ -92,8 +105,8 @@ cell-time-requires c κs =
 
 add-time-2 : tie.Need-add-time-2 Inv-loop μ-loop
 add-time-2 c =
-    let o = c .before .before .before .before .before .before .before .before .before in
-    omega (arith, clock-most _ _ (start o .pre .0) (o .before .loop .inv) (ahead o) (c .before .before .before .root2 .ensures .0) (speed-ahead o) (c .before .before .before .before .before .pass-point .ensures .0) (c .before .wide64 .ensures .0) (c .cell-time .ensures))
+    let o = c .before .before .before .before .before .before .before .before .before .before in
+    omega (arith, clock-most _ _ (start o .pre .0) (o .before .loop .inv) (ahead o) (c .before .before .before .root-after .ensures .0) (speed-ahead o) (c .before .before .before .before .before .before .pass-point .ensures .0) (c .before .wide64 .ensures .0) (c .cell-time .ensures))
 
 add-i : tie.Need-add-i Inv-loop μ-loop
 add-i c = search needs
@@ -103,9 +116,9 @@ loop-less c = search needs
 
 loop-again : tie.Need-loop-again Inv-loop μ-loop
 loop-again c =
-    let o = c .before .before .before .before .before .before .before .before .before in
-    let r = c .before .before .before .root2 in
-    let p = c .before .before .before .before .before .pass-point in
+    let o = c .before .before .before .before .before .before .before .before .before .before in
+    let r = c .before .before .before .root-after in
+    let p = c .before .before .before .before .before .before .pass-point in
     arrived-next _ _ (start o .pre .0) (o .before .loop .inv) (ahead o) (r .ensures .0) (speed-ahead o) (p .ensures .0) (c .before .wide64 .ensures .0) (c .cell-time .ensures) (r .ensures .1) (p .ensures .1) (start o .pre .1 .0 .1)
 
 mul-times-2 : tie.Need-mul-times-2 Inv-loop μ-loop
@@ -136,10 +149,12 @@ write-times-spec =
     mul-times
     slice-write-times
     pass-point-requires
-    add-t18
-    mul-t22
-    shared-slice-read-t24
-    root-requires-2
+    mul-t18
+    shared-slice-read-t23
+    add-t25
+    mul-t26
+    shared-slice-read-t28
+    root-after-requires
     add-time
     wide64-requires
     cell-time-requires
