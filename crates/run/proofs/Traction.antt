@@ -1,17 +1,17 @@
 -- Laws of a train's changes of squared speed, of its decoded bands and of the traction step by them. Assumes nothing.
 use Prim.Native.Nat.{ℕ, suc, _+_, _-_, _≤_, _<_, min}
 use mathlib.Core.List.{List, [], _∷_}
-use mathlib.Core.Path.{_≡_, refl, ap, _∙_}
+use mathlib.Core.Path.{_≡_, refl, sym, ap, _∙_}
 use native.Mathlib.Nat.{le-antisymm, mul-le-mul, mul-le-mul-right}
 use native.Mathlib.Omega.{arith}
 use lib.ListN.{length}
 use Rattle.rules.specs.Count.{entry, row, greatestBelow}
 use Rattle.rules.specs.Line.{Line, Train}
-use Rattle.rules.specs.Run.{squared, change, brakingLoss, lastOr, tractionStep}
+use Rattle.rules.specs.Run.{squared, change, brakingLoss, lastOr, lastTop, tractionStep}
 use Rattle.rules.specs.Admitted.{Admitted}
 use Rattle.rules.specs.Meaning.{bandPart}
 use Rattle.rules.proofs.Count.{at-most-greatest, greatest-at-most, length-row, entry-row}
-use Rattle.rules.proofs.Step.{practice-most, squared-most, step-is}
+use Rattle.rules.proofs.Step.{practice-most, squared-most, last-top, step-is}
 use Rattle.line.specs.Values.{trainIn}
 use Rattle.line.specs.declared.decoded.Train as decoded
 use Rattle.run.specs.declared.bands.Bands.{Bands}
@@ -58,6 +58,13 @@ module _ (l : Line) (t : decoded.Train) (a : Admitted l (trainIn t)) where
 
 -- ---- the traction step
 
+-- a cap at most w and the last band's most is at most the step from w
+pub cap-reached :
+    (count : ℕ) (gains mosts : List ℕ) (w c : ℕ) → 1 ≤ count → c ≤ w → c ≤ entry mosts (count - 1) →
+    c ≡ min c (greatestBelow count (λ k. min (w + entry gains k) (entry mosts k)))
+cap-reached count gains mosts w c h p q =
+    omega (arith, at-most-greatest count (λ k. min (w + entry gains k) (entry mosts k)) (count - 1) (omega arith))
+
 module _ (l : Line) (t : Train) (a : Admitted l t) (b : Bands) (h : IsBands l t b) where
   pub bands-bounded : BandBounds (b .count) (b .gains) (b .mosts)
   bands-bounded =
@@ -77,3 +84,9 @@ module _ (l : Line) (t : Train) (a : Admitted l t) (b : Bands) (h : IsBands l t 
       let (k, m, e) = step-is l t a w .attained in
       le-antisymm (greatest-at-most (b .count) part (tractionStep l t w) (λ k m. omega (arith, part-is w k m, step-is l t a w .each k (omega arith))))
       (omega (arith, part-is w k (omega arith), at-most-greatest (b .count) part k (omega arith)))
+
+  -- the last band's most is the square of 100 times its top
+  pub last-most : (1 ≤ b .count) × (entry (b .mosts) (b .count - 1) ≡ squared (lastTop t))
+  last-most =
+      let n : 1 ≤ b .count = omega (arith, h .count) in
+      (n, h .most (b .count - 1) (omega arith) ∙ ap squared (rw (h .count) (sym (last-top l t a))))

@@ -16,12 +16,13 @@ use widths::size;
 ghost use mathlib.Core.Bool.{cond};
 ghost use mathlib.Core.List.{_++_};
 ghost use mathlib.Core.Path.{_≡_};
-ghost use Prim.Native.Nat.{_≤_};
+ghost use Prim.Native.Nat.{_+_, _-_, _≤_, min};
 ghost use lib.ListN.{length, drop};
 ghost use Rattle.rules.specs.Admitted.{Admitted};
-ghost use Rattle.rules.specs.Count.{row};
+ghost use Rattle.rules.specs.Count.{entry, greatestBelow, row};
 ghost use Rattle.rules.specs.Run.{squared, forward};
 ghost use Rattle.line.specs.Values.{lineIn, trainIn};
+ghost use Rattle.run.specs.Traction.{BandBounds};
 
 // The cap of a speed in km/h: 0 at a stop.
 fn cap_of(stopped: bool, v: u32) -> SquaredSpeed
@@ -32,6 +33,25 @@ fn cap_of(stopped: bool, v: u32) -> SquaredSpeed
         return SquaredSpeed(0);
     }
     squared_of(v)
+}
+
+// The lesser of the cap and the traction step from w. The step is at least w or the last band's most.
+fn capped_step(
+    count: usize,
+    gains: &[u32; 8],
+    mosts: &[u32; 8],
+    w: SquaredSpeed,
+    cap: SquaredSpeed,
+) -> SquaredSpeed
+    requires { ⌜ BandBounds count (now gains) (now mosts) × (w .0 ≤ 900000000) ⌝ }
+    requires { ⌜ (1 ≤ count) × (cap .0 ≤ entry (now mosts) (count - 1)) ⌝ }
+    ensures { λ r. ⌜ r .0 ≡ min (cap .0) (greatestBelow count (λ k. min (w .0 + entry (now (gains .entry)) k) (entry (now (mosts .entry)) k))) ⌝ }
+{
+    if cap.0 <= w.0 {
+        return cap;
+    }
+    let step = traction_step(count, gains, mosts, w);
+    SquaredSpeed(lesser(cap.0, step.0))
 }
 
 pub(crate) fn write_forward(line: Line, train: Train, speeds: &mut [u32])
@@ -61,8 +81,7 @@ pub(crate) fn write_forward(line: Line, train: Train, speeds: &mut [u32])
     while i < points {
         let stopped = stop_here(&halts, train.stops, next, i);
         let cap = cap_of(stopped, under.lowest);
-        let step = traction_step(bands.count, &gains, &mosts, w);
-        w = SquaredSpeed(lesser(cap.0, step.0));
+        w = capped_step(bands.count, &gains, &mosts, w, cap);
         speeds[i] = w.0;
         next = after_point(next, stopped);
         i += 1;

@@ -1,20 +1,21 @@
 use Prim.Native.Nat.{_+_}
 use Rattle.rules.specs.Run.{cap}
 use mathlib.Core.Bool.{cond}
-use Rattle.rules.proofs.Cap.{cap-most}
+use Rattle.rules.proofs.Cap.{cap-top, cap-most}
 use native.Mathlib.Numerals.{add-one}
 use Rattle.run.proofs.Sweeping.{counts}
 use Rattle.rules.specs.Run.{trainCells, lastTop}
-use Rattle.run.proofs.Traction.{count-least, count-most, bands-bounded, traction-is}
+use Rattle.run.proofs.Traction.{count-least, count-most, bands-bounded, traction-is, last-most}
 use Rattle.run.proofs.Sweeping.{Before, before-start, before-next, forward-at, cap-at, under-most, counts, under-ready, under-begun, under-on, stop-by-list}
 use Rattle.run.proofs.Limits.{IsUnder}
 use Rattle.run.proofs.Halts.{next-first, next-after}
-use Rattle.run.specs.Stops.{NextStop}
+use Rattle.run.specs.Stops.{NextStop, stopHere}
+use lib.ListN.{length}
 use Rattle.line.specs.Values.{lineIn, trainIn}
 use Rattle.rules.proofs.Fill.{Filled, fill-none, fill-up, fill-done}
 use Rattle.rules.specs.Run.{forward}
 use mathlib.Core.Path.{_≡_, ap, _∙_}
-use Prim.Native.Nat.{_≤_, _-_}
+use Prim.Native.Nat.{_≤_, _<_, _-_}
 use native.Mathlib.Omega.{arith}
 use borrow.Author.Needs.{needs}
 use Rattle.run.proofs.forward.write_forward.Statement.{statement}
@@ -27,6 +28,25 @@ Inv-loop line train speeds₀ points froms limits halts n top bands gains mosts 
 
 abbrev μ-loop : tie.MeasureT-loop
 μ-loop line train speeds₀ points froms limits halts n top bands gains mosts lowest under₀ next₀ w₀ i₀ speeds under next w i = points - i
+
+abbrev start : tie.In-loop Inv-loop μ-loop → tie.Start Inv-loop μ-loop
+start c = c .before .before .before .before .before .before .before .before .before .before .before .before .before .before
+
+-- this point is on the line; whether the train stops at it, and its cap
+on-line : (c : tie.In-loop Inv-loop μ-loop) → c .before .loop .i < start c .args .line .points
+on-line c = omega (arith, c .loop-test .taken, c .before .before .before .before .before .before .before .before .before .before .before .before .size .ensures .0)
+
+stopped-here : (c : tie.After-stop-here Inv-loop μ-loop) → c .stop-here .result ≡ stopHere (trainIn (start (c .before .before) .args .train) .stops) (length (trainIn (start (c .before .before) .args .train) .stops)) (c .before .before .before .loop .next) (c .before .before .before .loop .i)
+stopped-here c =
+    let s = start (c .before .before) in
+    let o = c .before .before .before .loop in
+    c .stop-here .ensures ∙ stop-by-list (s .args .line) (s .args .train) (s .pre .0) (o .next) (o .i)
+
+cap-here : (c : tie.After-cap-of Inv-loop μ-loop) → c .cap-of .result .0 ≡ cap (lineIn (start (c .before .before .before) .args .line)) (trainIn (start (c .before .before .before) .args .train)) (c .before .before .before .before .loop .i)
+cap-here c =
+    let s = start (c .before .before .before) in
+    let o = c .before .before .before .before .loop in
+    cap-at _ _ (s .pre .0) (o .i) (o .next) (on-line (c .before .before .before)) (o .inv .1) (o .inv .2) (stopped-here (c .before)) (c .cap-of .ensures)
 
 size-requires : tie.Need-size-requires Inv-loop μ-loop
 size-requires c κs = search needs
@@ -50,53 +70,63 @@ loop-holds c =
     (search needs, under-begun (a .line) (a .train) p _ _ (rw (c .before .before .before .before .before .last-top .ensures) at (c .lowest-limit .ensures)), next-first _, before-start _ _, omega arith, fill-none _ _ _)
 
 stop-here-requires : tie.Need-stop-here-requires Inv-loop μ-loop
-stop-here-requires c κs = omega (arith, counts (c .before .before .before .before .before .before .before .before .before .before .before .before .before .before .before .args .line) (c .before .before .before .before .before .before .before .before .before .before .before .before .before .before .before .args .train) (c .before .before .before .before .before .before .before .before .before .before .before .before .before .before .before .pre .0))
+stop-here-requires c κs =
+    let s = start (c .before) in
+    omega (arith, counts (s .args .line) (s .args .train) (s .pre .0))
 
 cap-of-requires : tie.Need-cap-of-requires Inv-loop μ-loop
-cap-of-requires c κs = under-most _ _ (c .before .before .before .before .before .before .before .before .before .before .before .before .before .before .before .before .pre .0) (c .before .before .before .loop .inv .1)
+cap-of-requires c κs =
+    let s = start (c .before .before) in
+    under-most _ _ (s .pre .0) (c .before .before .before .loop .inv .1)
 
-traction-step-requires : tie.Need-traction-step-requires Inv-loop μ-loop
-traction-step-requires c κs = (bands-bounded _ _ (c .before .before .before .before .before .before .before .before .before .before .before .before .before .before .before .before .before .before .before .pre .0) _ (c .before .before .before .before .before .before .before .before .before .before .before .bands-of .ensures), c .before .before .before .before .before .before .loop .inv .4)
-
-lesser-requires : tie.Need-lesser-requires Inv-loop μ-loop
-lesser-requires c κs = search needs
+capped-step-requires : tie.Need-capped-step-requires Inv-loop μ-loop
+capped-step-requires c κs =
+    let s = start (c .before .before .before .before .before) in
+    let b = c .before .before .before .before .before .before .before .before .before .before .before .bands-of .ensures in
+    let m = last-most _ _ (s .pre .0) _ b in
+    ((bands-bounded _ _ (s .pre .0) _ b, c .before .before .before .before .before .before .loop .inv .4), (m .0, omega (arith, m .1, cap-here (c .before .before), cap-top (lineIn (s .args .line)) (trainIn (s .args .train)) (c .before .before .before .before .before .before .loop .i))))
 
 mul-speeds : tie.Need-mul-speeds Inv-loop μ-loop
-mul-speeds c = omega (arith, c .before .before .before .before .before .before .before .loop-test .taken, c .before .before .before .before .before .before .before .before .before .before .before .before .before .before .before .before .before .before .before .size .ensures .1)
+mul-speeds c = omega (arith, c .before .before .before .before .before .before .loop-test .taken, c .before .before .before .before .before .before .before .before .before .before .before .before .before .before .before .before .before .before .size .ensures .1)
 
 slice-write-speeds : tie.Need-slice-write-speeds Inv-loop μ-loop
-slice-write-speeds c = omega (arith, c .before .before .before .before .before .before .before .before .loop .inv .5 .long, c .before .before .before .before .before .before .before .loop-test .taken, c .before .before .before .before .before .before .before .before .before .before .before .before .before .before .before .before .before .before .before .before .before .pre .1, c .before .before .before .before .before .before .before .before .before .before .before .before .before .before .before .before .before .before .before .size .ensures .0)
+slice-write-speeds c =
+    let s = start (c .before .before .before .before .before .before) in
+    omega (arith, c .before .before .before .before .before .before .before .loop .inv .5 .long, on-line (c .before .before .before .before .before .before), s .pre .1)
 
 after-point-requires : tie.Need-after-point-requires Inv-loop μ-loop
-after-point-requires c κs = omega (arith, counts (c .before .before .before .before .before .before .before .before .before .before .before .before .before .before .before .before .before .before .before .before .before .args .line) (c .before .before .before .before .before .before .before .before .before .before .before .before .before .before .before .before .before .before .before .before .before .args .train) (c .before .before .before .before .before .before .before .before .before .before .before .before .before .before .before .before .before .before .before .before .before .pre .0), c .before .before .before .before .before .before .before .before .loop .inv .2 .there)
+after-point-requires c κs =
+    let s = start (c .before .before .before .before .before .before) in
+    omega (arith, counts (s .args .line) (s .args .train) (s .pre .0), c .before .before .before .before .before .before .before .loop .inv .2 .there)
 
 add-i : tie.Need-add-i Inv-loop μ-loop
-add-i c = omega (arith, c .before .before .before .before .before .before .before .before .loop-test .taken, c .before .before .before .before .before .before .before .before .before .before .before .before .before .before .before .before .before .before .before .before .size .ensures .1)
+add-i c = omega (arith, c .before .before .before .before .before .before .before .loop-test .taken, c .before .before .before .before .before .before .before .before .before .before .before .before .before .before .before .before .before .before .before .size .ensures .1)
 
 under-at-requires : tie.Need-under-at-requires Inv-loop μ-loop
 under-at-requires c κs =
-    let r = under-ready (c .before .before .before .before .before .before .before .before .before .before .before .before .before .before .before .before .before .before .before .before .before .before .before .before .args .line) (c .before .before .before .before .before .before .before .before .before .before .before .before .before .before .before .before .before .before .before .before .before .before .before .before .args .train) (c .before .before .before .before .before .before .before .before .before .before .before .before .before .before .before .before .before .before .before .before .before .before .before .before .pre .0) (c .before .before .before .before .before .before .before .before .before .before .before .loop .inv .1) in
-    let n = counts (c .before .before .before .before .before .before .before .before .before .before .before .before .before .before .before .before .before .before .before .before .before .before .before .before .args .line) (c .before .before .before .before .before .before .before .before .before .before .before .before .before .before .before .before .before .before .before .before .before .before .before .before .args .train) (c .before .before .before .before .before .before .before .before .before .before .before .before .before .before .before .before .before .before .before .before .before .before .before .before .pre .0) in
-    ((r .0, r .1, n .1), rw (c .before .before .before .before .before .before .before .before .before .before .before .before .before .before .before .before .before .last-top .ensures) (r .2))
+    let s = start (c .before .before .before .before .before .before .before .before .before) in
+    let r = under-ready (s .args .line) (s .args .train) (s .pre .0) (c .before .before .before .before .before .before .before .before .before .before .loop .inv .1) in
+    let n = counts (s .args .line) (s .args .train) (s .pre .0) in
+    ((r .0, r .1, n .1), rw (c .before .before .before .before .before .before .before .before .before .before .before .before .before .before .before .before .last-top .ensures) (r .2))
 
 loop-less : tie.Need-loop-less Inv-loop μ-loop
 loop-less c = omega arith
 
 loop-again : tie.Need-loop-again Inv-loop μ-loop
 loop-again c =
-    let a = c .before .before .before .before .before .before .before .before .before .before .before .before .before .before .before .before .before .before .before .before .before .before .before .before .before .args in
-    let p = (c .before .before .before .before .before .before .before .before .before .before .before .before .before .before .before .before .before .before .before .before .before .before .before .before .before .pre .0) in
-    let o = c .before .before .before .before .before .before .before .before .before .before .before .before .loop in
-    let stopped = c .before .before .before .before .before .before .before .before .before .stop-here .ensures ∙ stop-by-list (a .line) (a .train) p (o .next) (o .i) in
-    let here : c .before .before .before .before .before .before .before .before .cap-of .result .0 ≡ cap (lineIn (a .line)) (trainIn (a .train)) (o .i) = cap-at _ _ p (o .i) (o .next) (omega (arith, c .before .before .before .before .before .before .before .before .before .before .before .loop-test .taken, c .before .before .before .before .before .before .before .before .before .before .before .before .before .before .before .before .before .before .before .before .before .before .before .size .ensures .0)) (o .inv .1) (o .inv .2) stopped (c .before .before .before .before .before .before .before .before .cap-of .ensures) in
-    let v = forward-at _ _ p (o .i) (o .inv .3) here (c .before .before .before .before .before .traction-step .ensures ∙ traction-is _ _ p _ (c .before .before .before .before .before .before .before .before .before .before .before .before .before .before .before .before .before .bands-of .ensures) _) (c .before .before .before .before .lesser .ensures) in
-    let after = c .before .before .before .after-point .ensures ∙ ap (λ x. cond x (o .next + 1) (o .next)) stopped in (
-      omega (arith, c .before .before .before .before .before .before .before .before .before .before .before .loop-test .taken),
-      under-on (a .line) (a .train) p _ _ (o .i) (o .inv .1) (rw (c .before .before .before .before .before .before .before .before .before .before .before .before .before .before .before .before .before .before .last-top .ensures, c .before .before .before .before .before .before .before .before .before .before .before .before .before .before .before .before .before .before .before .train-cells .ensures) at (c .under-at .ensures)),
+    let s = start (c .before .before .before .before .before .before .before .before .before .before) in
+    let a = s .args in
+    let p = s .pre .0 in
+    let o = c .before .before .before .before .before .before .before .before .before .before .before .loop in
+    let here = cap-here (c .before .before .before .before .before .before .before) in
+    let v = forward-at _ _ p (o .i) (o .inv .3) here (traction-is _ _ p _ (c .before .before .before .before .before .before .before .before .before .before .before .before .before .before .before .before .bands-of .ensures) _) (c .before .before .before .before .capped-step .ensures) in
+    let after = c .before .before .before .after-point .ensures ∙ ap (λ x. cond x (o .next + 1) (o .next)) (stopped-here (c .before .before .before .before .before .before .before .before)) in (
+      omega (arith, c .before .before .before .before .before .before .before .before .before .before .loop-test .taken),
+      under-on (a .line) (a .train) p _ _ (o .i) (o .inv .1) (rw (c .before .before .before .before .before .before .before .before .before .before .before .before .before .before .before .before .before .last-top .ensures, c .before .before .before .before .before .before .before .before .before .before .before .before .before .before .before .before .before .before .train-cells .ensures) at (c .under-at .ensures)),
       rw after (next-after _ (p .rule8 .apart) (o .inv .2)),
       before-next _ _ (o .i) v,
-      omega (arith, cap-most _ _ p (o .i), c .before .before .before .before .lesser .ensures),
-      fill-up (o .inv .5) (omega arith) (add-one _) (omega (arith, c .before .before .before .before .before .before .before .before .before .before .before .loop-test .taken, c .before .before .before .before .before .before .before .before .before .before .before .before .before .before .before .before .before .before .before .before .before .before .before .before .before .pre .1, c .before .before .before .before .before .before .before .before .before .before .before .before .before .before .before .before .before .before .before .before .before .before .before .size .ensures .0)) v,
+      omega (arith, here, cap-most _ _ p (o .i), c .before .before .before .before .capped-step .ensures),
+      fill-up (o .inv .5) (omega arith) (add-one _) (omega (arith, on-line (c .before .before .before .before .before .before .before .before .before .before), s .pre .1)) v,
     )
 
 same-length : tie.Need-same-length Inv-loop μ-loop
@@ -121,8 +151,7 @@ write-forward-spec =
     loop-holds
     stop-here-requires
     cap-of-requires
-    traction-step-requires
-    lesser-requires
+    capped-step-requires
     mul-speeds
     slice-write-speeds
     after-point-requires

@@ -1,0 +1,22 @@
+use native.Mathlib.Omega.{arith}
+use Rattle.run.proofs.Traction.{cap-reached}
+use borrow.Author.Needs.{needs}
+use Rattle.run.proofs.forward.capped_step.Statement.{statement}
+use Rattle.run.proofs.forward.capped_step.Tie as tie
+
+returns : tie.Need-returns
+returns c =
+    let a = c .before .before .before in
+    cap-reached (a .args .count) (a .args .gains .now) (a .args .mosts .now) (a .args .w .0) (a .args .cap .0) (a .pre .1 .0) (omega (arith, c .if1 .taken)) (a .pre .1 .1)
+
+traction-step-requires : tie.Need-traction-step-requires
+traction-step-requires c κs = search needs
+
+lesser-requires : tie.Need-lesser-requires
+lesser-requires c κs = search needs
+
+returns-2 : tie.Need-returns-2
+returns-2 c = search needs
+
+pub capped-step-spec : {M : Type 1} → statement M
+capped-step-spec = tie.close (tie.spec returns traction-step-requires lesser-requires returns-2)
