@@ -35,7 +35,7 @@ fn cap_of(stopped: bool, v: u32) -> SquaredSpeed
     squared_of(v)
 }
 
-// The lesser of the cap and the traction step from w. The step is at least w or the last band's most.
+// The lesser of the cap and the traction step from w. A cap at most w and the last band's most is at most the step.
 fn capped_step(
     count: usize,
     gains: &[u32; 8],
