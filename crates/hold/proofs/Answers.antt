@@ -19,6 +19,7 @@ use Rattle.rules.specs.Calls.{Holding, held, written, runRefusal}
 use Rattle.rules.specs.Meaning.{IsWritten}
 use Rattle.rules.proofs.Count.{and-left, and-right, length-row}
 use Rattle.rules.proofs.Calls.{written-is}
+use Rattle.rules.proofs.Written.{written-long}
 use Rattle.rules.proofs.Pairs.{pair-admitted}
 use Rattle.line.specs.Opened.{OpenPair, openedTrain}
 use Rattle.run.specs.Calls.{pairRefusal, pairSpeeds, pairTimes}
@@ -61,9 +62,6 @@ module _ (f : ℕ → ℕ) (n : ℕ) (s : List ℕ) {s′ : List ℕ} (e : s′ 
   pub written-entries : (k : ℕ) → k < n → entry s′ k ≡ entry (row f n) k
   written-entries k l = let p : entry s′ (0 + k) ≡ entry (row f n) k = here .inside k (rw (length-row f n) l) in rw (zero-add k) at p
 
-  pub written-long : length s′ ≡ length s
-  written-long = here .places
-
 -- what an accepted run gives the hold
 module _ (l : Line) (t : Train) (same : Parallel l t) (speeds times : List ℕ) where
   pub run-done :
@@ -76,7 +74,7 @@ module _ (l : Line) (t : Train) (same : Parallel l t) (speeds times : List ℕ) 
       let ok = pair-accepted l t (length speeds) (length times) n in
       let s : speeds′ ≡ written speeds 0 (row (runAt l t) (l .points)) = rw (eq-eqb (pairRefusal l t (length speeds) (length times)) 0 n) at p in
       let m : times′ ≡ written times 0 (row (arrival l t (row (runAt l t) (l .points))) (l .points)) = rw (eq-eqb (pairRefusal l t (length speeds) (length times)) 0 n) at q in
-      (pair-admitted l t (ok .0) same, (rw (written-long _ _ speeds s (ok .1)) (ok .1), rw (written-long _ _ times m (ok .2)) (ok .2)), written-entries _ _ speeds s (ok .1), written-entries _ _ times m (ok .2))
+      (pair-admitted l t (ok .0) same, (rw (written-long speeds (row (runAt l t) (l .points)) s (rw length-row (ok .1))) (ok .1), rw (written-long times (row (arrival l t (row (runAt l t) (l .points))) (l .points)) m (rw length-row (ok .2))) (ok .2)), written-entries _ _ speeds s (ok .1), written-entries _ _ times m (ok .2))
 
 -- ---- of a file
 

@@ -278,10 +278,6 @@ module _ (file : List ℕ) where
       append-kept (trainRules file k) (rule 11 (buffersLong (lineOf file) speeds times) ∷ []) (train-rising k) z
       ∙ refusal-cons 11 (buffersLong (lineOf file) speeds times) [] ∙ rw refusal-none
 
-  pub run-long : (k speeds times : ℕ) → trainRefusal file k ≡ 0 → lineOf file .points ≤ speeds → lineOf file .points ≤ times → runRefusal file k speeds times ≡ 0
-  unfolding buffersLong _and_
-  run-long k speeds times z g h = rw (run-by-buffers k speeds times z, le-leb (lineOf file .points) speeds g, le-leb (lineOf file .points) times h)
-
   -- a run that is not refused: the train is not, and both buffers have P entries
   pub run-accepted : (k speeds times : ℕ) → runRefusal file k speeds times ≡ 0 → (trainRefusal file k ≡ 0) × (lineOf file .points ≤ speeds) × (lineOf file .points ≤ times)
   unfolding runRefusal trainRefusal buffersLong

@@ -1,15 +1,14 @@
 -- A whole file in one call: its number and text, the answers train by train, and the run buffers. Assumes nothing.
 use Prim.Native.Nat.{ℕ, suc, _+_, _-_, _≤_, _<_}
 use mathlib.Core.Bool.{true, false, cond}
-use mathlib.Core.List.{List, [], _∷_, _++_}
-use mathlib.Core.Path.{_≡_, refl, sym, ap, _∙_}
+use mathlib.Core.List.{List, [], _∷_}
+use mathlib.Core.Path.{_≡_, sym, ap, _∙_}
 use native.Mathlib.Nat.{zero-add, add-zero}
 use native.Mathlib.Omega.{arith}
 use lib.Dec.{leb}
-use lib.ListN.{length, getD, drop}
-use lib.Seq.{drop-append-add}
+use lib.ListN.{length, getD}
 use borrow.Author.Tests.{le-leb, lt-leb, ne-eqb}
-use Rattle.rules.specs.Count.{_and_, entry, row}
+use Rattle.rules.specs.Count.{_and_}
 use Rattle.rules.specs.File.{trainCount}
 use Rattle.rules.specs.Line.{Line, Train, lineOf, trainOf}
 use Rattle.rules.specs.Run.{runRow}
@@ -17,12 +16,11 @@ use Rattle.rules.specs.Time.{arrivals, runTimes}
 use Rattle.rules.specs.Hold.{holdOf}
 use Rattle.rules.specs.Sheet.{Sheet, fresh}
 use Rattle.rules.specs.Refusal.{rule, fileRules, buffersLong}
-use Rattle.rules.specs.Calls.{refused, added, written, fileRefusal}
+use Rattle.rules.specs.Calls.{refused, added, fileRefusal}
 use Rattle.rules.specs.Demand.{answers}
 use Rattle.rules.specs.Text.{holdsFrom, fileAnswers, sheetText}
 use Rattle.rules.specs.Study.{studyRefusal, refusedStudy, acceptedStudy, studied, programStudied}
 use Rattle.rules.proofs.Count.{length-row}
-use Rattle.rules.proofs.Fill.{fill-done}
 use Rattle.rules.proofs.Refusal.{refusal-none, refusal-cons, append-refused, append-kept, file-rising}
 
 -- ---- the number, and what is answered by it
@@ -121,25 +119,3 @@ length-speeds l t = length-row _ _
 pub length-times : (l : Line) (t : Train) → length (runTimes l t) ≡ l .points
 unfolding arrivals
 length-times l t = length-row _ _
-
-written-front : (s xs : List ℕ) → written s 0 xs ≡ xs ++ drop (length xs) s
-unfolding written
-written-front s xs = rw zero-add
-
-module _ (s xs : List ℕ) where
-  drop-written : drop (length xs) (written s 0 xs) ≡ drop (length xs) s
-  drop-written = rw (written-front s xs) (rw add-zero at (drop-append-add xs (drop (length xs) s) 0))
-
-  -- as many values again at the same place
-  pub written-over : (ys : List ℕ) → length ys ≡ length xs → written (written s 0 xs) 0 ys ≡ written s 0 ys
-  written-over ys e =
-      written-front (written s 0 xs) ys ∙ ap (λ (r : List ℕ). ys ++ r) (rw e drop-written) ∙ sym (written-front s ys)
-
-  -- the entries that stood there
-  pub written-back : length xs ≤ length s → written (written s 0 xs) 0 (row (entry s) (length xs)) ≡ s
-  written-back h =
-      let same : s ≡ row (entry s) (length xs) ++ drop (length xs) s =
-      fill-done (record { long = refl; inside = λ k a b. refl; under = λ k a. refl; over = λ k a. refl }) h in
-      written-over (row (entry s) (length xs)) (length-row _ _)
-      ∙ written-front s (row (entry s) (length xs))
-      ∙ rw length-row (sym same)

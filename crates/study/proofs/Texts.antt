@@ -20,9 +20,9 @@ use Rattle.rules.specs.Time.{runTimes}
 use Rattle.rules.proofs.Calls.{written-is}
 use Rattle.rules.proofs.Count.{length-row, entry-row}
 use Rattle.rules.proofs.Loops.{row-agree}
-use Rattle.rules.proofs.Studies.{short-text, all-studied, written-back}
+use Rattle.rules.proofs.Studies.{short-text, all-studied}
 use Rattle.rules.proofs.Text.{text-accepted}
-use Rattle.rules.proofs.Written.{written-none}
+use Rattle.rules.proofs.Written.{written-none, written-long, written-back}
 use Rattle.text.specs.declared.Wrote.{Wrote}
 use Rattle.text.specs.declared.Wrote.the-variants.{Upto, Nothing}
 use Rattle.text.specs.Text.{placePast, bufferAfter, lineAt, rowsText, equalCounts, sheetPast, sheetBuffer}
@@ -64,9 +64,6 @@ module _ (buffer text : List ℕ) {after : List ℕ} (e : after ≡ bufferAfter 
   pub text-put : leb (length text) (length buffer) ≡ true → after ≡ written buffer 0 text
   unfolding bufferAfter
   text-put h = e ∙ rw (zero-add, h)
-
-pub written-long : (buffer xs : List ℕ) {after : List ℕ} → after ≡ written buffer 0 xs → length xs ≤ length buffer → length after ≡ length buffer
-written-long buffer xs e h = rw e (written-is buffer 0 xs (rw zero-add h) .places)
 
 -- the bytes written are within the buffer
 within-none : (number : ℕ) (buffer : List ℕ) → Within (record { number = number; bytes = 0 }) buffer

@@ -15,13 +15,13 @@ use Rattle.rules.specs.Sheet.{Sheet, fresh}
 use Rattle.rules.specs.Study.{lastTrain}
 use Rattle.rules.specs.Text.{startOf, blockOf, fileAnswers, runningTime}
 use Rattle.rules.specs.Time.{runTimes}
-use Rattle.rules.proofs.Calls.{written-is}
 use Rattle.rules.proofs.Count.{within-holds}
 use Rattle.rules.proofs.Demand.{opened-fresh}
 use Rattle.rules.proofs.File.{record-next}
 use Rattle.rules.proofs.Fill.{Filled, fill-none, fill-up}
 use Rattle.rules.proofs.Refusal.{line-sizes, admitted}
-use Rattle.rules.proofs.Studies.{Rest, rest-first, rest-here, rest-next, length-speeds, length-times, written-over}
+use Rattle.rules.proofs.Studies.{Rest, rest-first, rest-here, rest-next, length-speeds, length-times}
+use Rattle.rules.proofs.Written.{written-over, written-long}
 use Rattle.line.specs.Opened.{hasTrain}
 use Rattle.sheet.specs.Values.{asSheet}
 use Rattle.line.proofs.Callers.{record-there}
@@ -42,7 +42,7 @@ module _ (value : Train → List ℕ) (file buffer : List ℕ) (n : ℕ) (each :
   pub over-long : (k : ℕ) {s : List ℕ} → s ≡ overwritten value file buffer k → length s ≡ length buffer
   unfolding overwritten
   over-long zero e = rw e
-  over-long (suc k) e = rw e (written-is buffer 0 (value (trainOf file k)) (omega (arith, each (trainOf file k))) .places)
+  over-long (suc k) e = written-long buffer (value (trainOf file k)) e (omega (arith, each (trainOf file k)))
 
   pub over-last : (k : ℕ) {s : List ℕ} → s ≡ overwritten value file buffer k → 1 ≤ k → k ≡ trainCount file → s ≡ written buffer 0 (value (lastTrain file))
   unfolding overwritten lastTrain

@@ -1,7 +1,8 @@
 use Rattle.rules.proofs.Count.{length-row}
 use Rattle.rules.specs.Count.{entry, row}
-use Rattle.study.proofs.Texts.{sheet-past, sheet-after, study-left, study-put, written-long, put-back}
+use Rattle.study.proofs.Texts.{sheet-past, sheet-after, study-left, study-put, put-back}
 use Rattle.line.proofs.Callers.{line-opened, trains-opened}
+use Rattle.rules.proofs.Written.{written-long}
 use Rattle.rules.proofs.Studies.{length-speeds, length-times}
 use Rattle.rules.proofs.Refusal.{line-sizes}
 use Rattle.rules.specs.Time.{runTimes}
