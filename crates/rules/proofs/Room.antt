@@ -24,9 +24,9 @@ use Rattle.rules.proofs.Studies.{file-not-studied, all-studied, input-l
 use Rattle.rules.proofs.Time.{entry-times, arrival-most}
 
 -- what an answer can be
-pub record Few (a : Answer) : Type 0 where
-  pub start : startOf a < 10 ^ 16
-  pub block : blockOf a < 10 ^ 2
+record Few (a : Answer) : Type 0 where
+  start : startOf a < 10 ^ 16
+  block : blockOf a < 10 ^ 2
 
 few-refused : (n : ℕ) → Few (refused n)
 few-refused n = record { start = omega arith; block = omega arith }

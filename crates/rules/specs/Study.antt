@@ -13,7 +13,7 @@ use Rattle.rules.specs.Time.{runTimes}
 use Rattle.rules.specs.Refusal.{Rule, rule, refusal, fileRules, buffersLong}
 use Rattle.rules.specs.Calls.{refused, written}
 use Rattle.rules.specs.Demand.{refusalOf}
-use Rattle.rules.specs.Text.{refusalText, fileAnswers, sheetText}
+use Rattle.rules.specs.Text.{mostInput, refusalText, fileAnswers, sheetText}
 
 -- the rules of the file, then 11: of the run buffers, and of the lent bytes, which have room for the sheet's text
 abbrev pub studyRules : List ℕ → ℕ → ℕ → ℕ → List Rule
@@ -63,7 +63,7 @@ studied file speeds times bytes =
 abbrev pub NoneRefused : List ℕ → Type 0
 NoneRefused file = AreBytes file → (k : ℕ) → k < trainCount file → refusalOf (getD (fileAnswers file) k (refused 0)) ≡ none
 
--- the same for the sheet program's input: above 16,384 bytes it is refused by 2 with no rule checked
+-- the same for the sheet program's input: above its bound it is refused by 2 with no rule checked
 unfoldable pub programStudied : List ℕ → List ℕ → List ℕ → ℕ → Study
 programStudied input speeds times bytes =
-    cond (leb (length input) 16384) (studied input speeds times bytes) (refusedStudy 2 speeds times bytes)
+    cond (leb (length input) mostInput) (studied input speeds times bytes) (refusedStudy 2 speeds times bytes)

@@ -88,6 +88,10 @@ unfoldable pub sheetText : List ℕ → List ℕ
 sheetText file =
     cond (eqb (fileRefusal file) 0) (header ++ joined (lineOfTrain file) (trainCount file)) (refusalText (fileRefusal file))
 
--- what the sheet program prints: input above 16,384 bytes is `refused 2` with no rule checked
+-- the bound on the sheet program's input, in bytes
+abbrev pub mostInput : ℕ
+mostInput = 16384
+
+-- what the sheet program prints: input above the bound is `refused 2` with no rule checked
 unfoldable pub programText : List ℕ → List ℕ
-programText file = cond (leb (length file) 16384) (sheetText file) (refusalText 2)
+programText file = cond (leb (length file) mostInput) (sheetText file) (refusalText 2)
