@@ -20,24 +20,15 @@ sys.path.insert(0, str(HERE / "calculator"))
 
 from calculator import Line, Refused, Train, accepted_line, broken_rules, check_call, number_of, parse  # noqa: E402
 from calculator import record_call, sample_line, write_line  # noqa: E402
-from packed import write_cases  # noqa: E402
+from packed import PackedFiles  # noqa: E402
 
 MOST_BYTES = 65536
 MOST = 65535
 TOP = 2 ** 64 - 1
 
 
-class Cases:
+class Cases(PackedFiles):
     """The packed files with the train numbers asked, and the lines that answer."""
-
-    def __init__(self):
-        self.packed = bytearray()
-        self.lines = []
-        self.files = set()
-        self.tally = {}
-
-    def count(self, what):
-        self.tally[what] = self.tally.get(what, 0) + 1
 
     def ask(self, data, numbers=None):
         if data in self.files:
@@ -391,8 +382,7 @@ def main():
     cases = Cases()
     for part in (sample, single_rules, several_rules, valid_files, largest_files, cut_files, great_sizes, any_bytes):
         part(cases, rng)
-    cases.tally["files"] = len(cases.files)
-    write_cases("line_cases", cases.packed, cases.lines, cases.tally)
+    cases.write("line_cases")
 
 
 if __name__ == "__main__":

@@ -1,4 +1,5 @@
 """What the scripts that pack cases have in common."""
+from collections import Counter
 from pathlib import Path
 
 CRATES = Path(__file__).resolve().parent.parent / "crates"
@@ -12,3 +13,20 @@ def write_cases(program, packed, lines, tally):
     for what in sorted(tally):
         print("%6d %s" % (tally[what], what))
     print("%d bytes in, %d bytes out" % (len(packed), len(answers)))
+
+
+class PackedFiles:
+    """Packed files, the lines that answer what is asked of them, and how many there are of each kind."""
+
+    def __init__(self):
+        self.packed = bytearray()
+        self.lines = []
+        self.files = set()
+        self.tally = Counter()
+
+    def count(self, what):
+        self.tally[what] += 1
+
+    def write(self, program):
+        self.tally["files"] = len(self.files)
+        write_cases(program, self.packed, self.lines, self.tally)

@@ -24,7 +24,7 @@ sys.dont_write_bytecode = True
 from calculator import Hold, Line, Refused, Train, accepted_line, hold_call, number_of, padded, parse  # noqa: E402
 from calculator import sample_line, write_line  # noqa: E402
 from line_cases import a_line, changed, changes_of_line, changes_of_train, kept, pick, rising, roomy  # noqa: E402
-from packed import write_cases  # noqa: E402
+from packed import PackedFiles  # noqa: E402
 
 NO_SPEED = 2 ** 32 - 1
 NO_TIME = 2 ** 64 - 1
@@ -63,18 +63,12 @@ def answers(data, k, speeds_length, times_length):
     return number, ["run %s" % left, "hold %s %s" % (left, record)]
 
 
-class Cases:
+class Cases(PackedFiles):
     """The packed files with the questions asked, and the lines that answer."""
 
     def __init__(self, rng):
+        super().__init__()
         self.rng = rng
-        self.packed = bytearray()
-        self.lines = []
-        self.files = set()
-        self.tally = {}
-
-    def count(self, what):
-        self.tally[what] = self.tally.get(what, 0) + 1
 
     def ask(self, data, questions=None):
         if data in self.files:
@@ -242,8 +236,7 @@ def main():
     cases = Cases(rng)
     for part in (sample, all_sizes, stops, lower_limits, bands, longest_trains, extremes, many_trains, short_buffers, broken_rules):
         part(cases, rng)
-    cases.tally["files"] = len(cases.files)
-    write_cases("run_cases", cases.packed, cases.lines, cases.tally)
+    cases.write("run_cases")
 
 
 if __name__ == "__main__":

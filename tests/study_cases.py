@@ -23,7 +23,7 @@ sys.dont_write_bytecode = True
 from calculator import HEADER_LINE, PROGRAM_BOUND, Line, Refused, Train, accepted_line, program, run_of  # noqa: E402
 from calculator import sample_line, sheet_of, write_line  # noqa: E402
 from line_cases import a_line, changed, kept  # noqa: E402
-from packed import write_cases  # noqa: E402
+from packed import PackedFiles  # noqa: E402
 from run_cases import LONGEST, NO_SPEED, NO_TIME, broken_lines, checksum, quick_train, some_line  # noqa: E402
 
 NO_BYTE = 255
@@ -53,17 +53,8 @@ def study(call, data, speeds, times, room):
     return 0, text
 
 
-class Cases:
+class Cases(PackedFiles):
     """The packed cases, and the lines that answer."""
-
-    def __init__(self):
-        self.packed = bytearray()
-        self.lines = []
-        self.files = set()
-        self.tally = {}
-
-    def count(self, what):
-        self.tally[what] = self.tally.get(what, 0) + 1
 
     def ask(self, data, call=INPUT, lengths=(LONGEST, LONGEST, MOST_TEXT)):
         self.files.add(data)
@@ -159,8 +150,7 @@ def main():
     cases = Cases()
     for part in (sample, sizes, many_trains, late_starts, broken_rules, bound, short_buffers):
         part(cases, rng)
-    cases.tally["files"] = len(cases.files)
-    write_cases("study_cases", cases.packed, cases.lines, cases.tally)
+    cases.write("study_cases")
 
 
 if __name__ == "__main__":
