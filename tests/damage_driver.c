@@ -65,12 +65,19 @@ static void print_numbers(const uint64_t *numbers, size_t count)
         printf(" %" PRIu64, numbers[i]);
 }
 
+/* How many entries stand before those that keep the pattern to the end. The highest byte of an entry written is never
+   that of the pattern. */
+static size_t written(const void *entries, size_t size, size_t count)
+{
+    const uint8_t *bytes = entries;
+    size_t left = size * count;
+    while (left > 0 && bytes[left - 1] == PATTERN)
+        left--;
+    return (left + size - 1) / size;
+}
+
 static void print_speeds(const uint32_t *speeds, size_t count)
 {
-    uint32_t untouched;
-    memset(&untouched, PATTERN, sizeof untouched);
-    while (count > 0 && speeds[count - 1] == untouched)
-        count--;
     printf(" %zu", count);
     for (size_t i = 0; i < count; i++)
         printf(" %" PRIu32, speeds[i]);
@@ -78,18 +85,14 @@ static void print_speeds(const uint32_t *speeds, size_t count)
 
 static void print_times(const uint64_t *times, size_t count)
 {
-    uint64_t untouched;
-    memset(&untouched, PATTERN, sizeof untouched);
-    while (count > 0 && times[count - 1] == untouched)
-        count--;
     printf(" %zu", count);
     print_numbers(times, count);
 }
 
 static void take_back_buffers(struct question *asked)
 {
-    print_speeds(asked->speeds, asked->speeds_length);
-    print_times(asked->times, asked->times_length);
+    print_speeds(asked->speeds, written(asked->speeds, sizeof *asked->speeds, asked->speeds_length));
+    print_times(asked->times, written(asked->times, sizeof *asked->times, asked->times_length));
     printf("\n");
     free(asked->speeds);
     free(asked->times);

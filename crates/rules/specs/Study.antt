@@ -1,4 +1,5 @@
 -- A whole file in one call: each train's run and hold, added in order to a fresh sheet, and the sheet program's text in lent bytes.
+-- Document 01 has no such call. Numbers and text are the paper's; what the lent memory then holds is settled here.
 use Prim.Native.Nat.{ℕ, _-_, _<_}
 use mathlib.Core.Bool.{cond}
 use mathlib.Core.List.{List, [], _∷_, _++_}
@@ -41,10 +42,10 @@ refusedStudy number speeds times bytes =
       times = times;
     }
 
--- the run buffers hold the run of the last train
 unfoldable pub lastTrain : List ℕ → Train
 lastTrain file = trainOf file (trainCount file - 1)
 
+-- The text is the sheet's, and the run buffers hold the run of the last train.
 abbrev pub acceptedStudy : List ℕ → List ℕ → List ℕ → Study
 acceptedStudy file speeds times =
     record {

@@ -1,0 +1,53 @@
+#!/usr/bin/env python3
+"""Tests the sheet program as it is built: what it prints, input that comes in pieces, and its bound of 16,384 bytes.
+
+Run it after `./sheet` or `rt check sheet_program` has built the program. Inputs at the bound are chosen so that the rules
+would give another number than 2.
+"""
+import subprocess
+import sys
+import unittest
+from pathlib import Path
+
+TOP_FOLDER = Path(__file__).resolve().parent.parent
+sys.path.insert(0, str(TOP_FOLDER / "tests" / "calculator"))
+sys.dont_write_bytecode = True
+
+from calculator import PROGRAM_BOUND, program, sample_line, write_line  # noqa: E402
+
+PROGRAM = TOP_FOLDER / "target" / "bin" / "sheet_program"
+SAMPLE = write_line(sample_line(), 0)
+
+
+def printed(*pieces):
+    """What the program prints for input that is written piece by piece."""
+    running = subprocess.Popen([PROGRAM], stdin=subprocess.PIPE, stdout=subprocess.PIPE)
+    for piece in pieces:
+        running.stdin.write(piece)
+        running.stdin.flush()
+    return running.communicate()[0]
+
+
+class SheetProgram(unittest.TestCase):
+    def test_sample(self):
+        self.assertEqual(printed(SAMPLE), b"train start run block\n1 0 69282976 0\n2 57282976 69282976 2\n")
+
+    def test_pieces(self):
+        self.assertEqual(printed(*(SAMPLE[i:i + 1] for i in range(len(SAMPLE)))), program(SAMPLE, 0))
+
+    def test_no_input(self):
+        self.assertEqual(printed(), b"refused 1\n")
+
+    def test_bound(self):
+        for byte in (b"\xff", b"\x01"):
+            whole = byte * PROGRAM_BOUND
+            self.assertNotEqual(program(whole, 0), b"refused 2\n")
+            self.assertEqual(printed(whole), program(whole, 0))
+            self.assertEqual(printed(whole, byte), b"refused 2\n")
+            self.assertEqual(printed(whole, whole * 4), b"refused 2\n")
+
+
+if __name__ == "__main__":
+    if not PROGRAM.exists():
+        sys.exit("the program is not there: run `rt check sheet_program`")
+    unittest.main()
