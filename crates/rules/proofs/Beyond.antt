@@ -7,6 +7,7 @@ use mathlib.Core.Path.{_≡_, refl, ap, ap₂, _∙_}
 use native.Mathlib.Omega.{arith}
 use lib.Dec.{leb, ltb, eqb}
 use lib.ListN.{length, getD}
+use Rattle.rules.specs.Count.{countedFrom1}
 use Rattle.rules.specs.Hold.{Hold, emptyHold}
 use Rattle.rules.specs.Sheet.{Sheet, end, freeTime, leastStart, blockNamed, released, sheetAfter}
 use Rattle.rules.specs.Refusal.{firstBroken, sheetRule, holdRule, addingRules}
@@ -44,7 +45,7 @@ module _ (s s′ : Sheet) (h h′ : Hold) (of : SameSheet s s′) (same : SameWi
   unfolding blockNamed
   same-block start =
       rw (← of .blocks)
-      (ap (cond (eqb start 0) 0) (first-agree (s .blocks) _ _ (λ b l. ap₂ eqb (ap (λ x. start + x) (same .begins b l)) (of .free b l))))
+      (ap (λ o. cond (eqb start 0) 0 (countedFrom1 o)) (first-agree (s .blocks) _ _ (λ b l. ap₂ eqb (ap (λ x. start + x) (same .begins b l)) (of .free b l))))
 
   same-rules : firstBroken (addingRules s h) ≡ firstBroken (addingRules s′ h′)
   same-rules = rw (same-12, of .trains, same-14)

@@ -1,25 +1,48 @@
 -- What the file calls hand out and leave in lent buffers. Assumes nothing.
 use Prim.Native.Nat.{ℕ, _+_, _-_, _≤_}
+use mathlib.Core.Bool.{Bool, true, false, cond}
 use mathlib.Core.List.{List, [], _++_}
-use mathlib.Core.Path.{_≡_, ap, _∙_}
+use mathlib.Core.Path.{_≡_, refl, ap, _∙_}
 use native.Mathlib.Omega.{arith}
+use lib.Dec.{eqb}
 use lib.ListN.{length, getD, take, drop, length-append, length-take, length-drop, List·getD-append}
 use lib.Seq.{length-take-le, getD-take, getD-drop, getD-append-add}
-use borrow.Author.Tests.{leb-true, eq-eqb, ne-eqb}
+use borrow.Author.Tests.{eq-eqb, ne-eqb}
 use Rattle.rules.specs.Count.{entry}
 use Rattle.rules.specs.File.{recordAt, recordEnd, recordSize, recordBytes}
 use Rattle.rules.specs.Line.{lineOf, trainOf}
 use Rattle.rules.specs.Run.{runRow}
 use Rattle.rules.specs.Time.{runTimes}
-use Rattle.rules.specs.Refusal.{whole}
-use Rattle.rules.specs.Calls.{written, trainRefusal, trainRecord, runRefusal, speedsAfter, timesAfter}
+use Rattle.rules.specs.Calls.{written, writeAnswer, bytesAfter, RecordPlace, recordPlace, trainRefusal, trainRecord, runRefusal, speedsAfter, timesAfter}
 use Rattle.rules.specs.Meaning.{IsWritten}
 use Rattle.rules.proofs.File.{record-within}
-use Rattle.rules.proofs.Refusal.{file-lowest, train-accepted}
+use Rattle.rules.proofs.Accepted.{train-accepted, file-there}
 
 -- a record's size is the distance from its place to the place past it
 pub record-size : (file : List ℕ) (at : ℕ) → at + recordSize file at ≡ recordEnd file at
 record-size file at = omega arith
+
+-- ---- calls that write bytes
+
+module _ (text : List ℕ) where
+  pub answer-written : writeAnswer 0 text ≡ record { number = 0; bytes = length text }
+  unfolding writeAnswer
+  answer-written = refl
+
+  pub bytes-written : (buffer : List ℕ) → bytesAfter 0 text buffer ≡ written buffer 0 text
+  unfolding bytesAfter
+  bytes-written buffer = refl
+
+  module _ {number : ℕ} (h : number ≡ 0 → ⊥) where
+    pub answer-refused : writeAnswer number text ≡ record { number = number; bytes = 0 }
+    unfolding writeAnswer
+    answer-refused = rw (ne-eqb number 0 h)
+
+    pub bytes-kept : (buffer : List ℕ) → bytesAfter number text buffer ≡ buffer
+    unfolding bytesAfter
+    bytes-kept buffer = rw (ne-eqb number 0 h)
+
+-- ---- the record of a train
 
 module _ (file : List ℕ) (k : ℕ) where
   pub record-handed : trainRefusal file k ≡ 0 → trainRecord file k ≡ recordBytes file k
@@ -30,12 +53,25 @@ module _ (file : List ℕ) (k : ℕ) where
   unfolding trainRecord
   nothing-handed h = rw (ne-eqb (trainRefusal file k) 0 h)
 
+  -- the part handed out stands where the place says
+  pub place-handed : trainRecord file k ≡ take (recordPlace file k .bytes) (drop (recordPlace file k .start) file)
+  unfolding trainRecord recordPlace
+  place-handed = go (eqb (trainRefusal file k) 0)
+    where
+      handed : Bool → RecordPlace
+      handed b =
+          cond b (record { number = 0; start = recordAt file k; bytes = recordSize file (recordAt file k) })
+          (record { number = trainRefusal file k; start = 0; bytes = 0 })
+
+      go : (b : Bool) → cond b (recordBytes file k) [] ≡ take (handed b .bytes) (drop (handed b .start) file)
+      go true = refl
+      go false = refl
+
   -- the record handed out lies within the file
   pub record-ends : trainRefusal file k ≡ 0 → recordEnd file (recordAt file k) ≤ length file
-  unfolding whole
   record-ends z =
-      let there = train-accepted file k z in
-      omega (arith, record-within file k (there .1), leb-true _ (length file) (file-lowest file .none-broken (there .0) 0 (omega arith)))
+      let (ok, there) = train-accepted file k z in
+      omega (arith, record-within file k there, file-there file ok)
 
   pub record-length : trainRefusal file k ≡ 0 → length (trainRecord file k) ≡ recordSize file (recordAt file k)
   record-length z =

@@ -9,7 +9,7 @@ use native.Mathlib.Omega.{arith}
 use lib.Dec.{leb, eqb}
 use lib.ListN.{length}
 use borrow.Author.Tests.{leb-true, le-leb, lt-leb, eqb-true, eqb-false, eq-eqb, ne-eqb}
-use Rattle.rules.specs.Count.{entry, lastBelow}
+use Rattle.rules.specs.Count.{entry}
 use Rattle.rules.specs.Line.{Line, Train}
 use Rattle.rules.specs.Run.{squared, trainCells, limitFrom, cellLimit, lastTop, lowestCovered, capSpeed, listed, capOf, cap}
 use Rattle.rules.specs.Admitted.{Admitted}
@@ -112,12 +112,14 @@ module _ (l : Line) (t : Train) where
     -- in every cell a limit holds: the last that has begun
     pub limit-in-force : (c : ℕ) → (k : ℕ) × InForce l k c
     limit-in-force c =
+        let n : ℕ = length (l .limitPoints) in
         let test : ℕ → Bool = λ k. leb (entry (l .limitPoints) k) c in
-        let last = last-passes (length (l .limitPoints)) test in
-        let first = last 0 (omega arith) (le-leb (entry (l .limitPoints) 0) c (omega arith)) in (
-          lastBelow (length (l .limitPoints)) test,
-          record { there = first .1; begun = leb-true _ _ (first .2); unended = λ h. lt-of-not-le (λ g. omega (arith, last _ h (le-leb _ c g))) },
-        )
+        let (j, f) = last-passes n test 0 (omega arith) (le-leb (entry (l .limitPoints) 0) c (omega arith)) in
+        let last : (k : ℕ) → k < n → entry (l .limitPoints) k ≤ c → k ≤ j = λ k h g.
+        let (i, e) = last-passes n test k h (le-leb (entry (l .limitPoints) k) c g) in
+        let same : i ≡ j = cc (e .found, f .found) in
+        omega (arith, e .at-least) in
+        (j, record { there = f .there; begun = leb-true _ _ (f .passes); unended = λ h. lt-of-not-le (λ g. omega (arith, last (suc j) h g)) })
 
     limit-least : (c : ℕ) → 1 ≤ cellLimit l c
     limit-least c = let (k, f) = limit-in-force c in rw (limit-is k c f) (a .rule5 .limit-least k (omega arith))

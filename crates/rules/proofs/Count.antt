@@ -3,6 +3,7 @@ use Prim.Native.Nat.{ℕ, zero, suc, _+_, _-_, _*_, _/_, _≤_, _<_, min, max}
 use mathlib.Core.Bool.{Bool, true, false, cond, false≢true}
 use mathlib.Core.List.{[]}
 use mathlib.Core.Logic.{_⊎_, inl, inr, ⊎-elim}
+use mathlib.Core.Option.{none, some}
 use mathlib.Core.Path.{_≡_, refl, sym, subst, ap, ap₂, _∙_}
 use native.Mathlib.Decide.{decLe}
 use native.Mathlib.Nat.{le-refl, le-trans, le-suc-iff, le-of-suc-le-suc, eq-or-lt-of-le, le-max-left, le-max-right, max-le, add-zero, zero-add, lt-div-mul-add, div-lt-iff-lt-mul, suc-mul, mul-le-mul-left}
@@ -10,7 +11,7 @@ use native.Mathlib.Omega.{arith}
 use lib.Dec.{leb, eqb}
 use lib.ListN.{length}
 use borrow.Author.Tests.{leb-true, le-leb, ne-eqb}
-use Rattle.rules.specs.Count.{_and_, entry, rowFrom, row, every, within, allWithin, belowBy, risesBy, greatestBelow, lowestFrom, firstBelow, lastBelow, ceilDiv}
+use Rattle.rules.specs.Count.{_and_, entry, rowFrom, row, every, within, allWithin, belowBy, risesBy, greatestBelow, lowestFrom, orZero, ifPasses, orElse, firstBelow, lastBelow, ceilDiv}
 use Rattle.rules.specs.Meaning.{IsRoundedUp}
 
 -- what holds of each number below n, and of n, holds of each below n + 1
@@ -142,26 +143,23 @@ pub record FirstPasses (n : ℕ) (test : ℕ → Bool) (b : ℕ) : Type 0 where
   pub passes : test b ≡ true
   pub none-before : NonePasses b test
 
-pub first-none : (n : ℕ) (test : ℕ → Bool) → NonePasses n test → firstBelow n test ≡ 0
+pub first-none : (n : ℕ) (test : ℕ → Bool) → NonePasses n test → firstBelow n test ≡ none
 unfolding firstBelow
 first-none zero test h = refl
 first-none (suc n) test h = rw (first-none n test (λ i l. h i (omega arith)), h n (omega arith))
 
-pub first-found : (n : ℕ) (test : ℕ → Bool) (b : ℕ) → FirstPasses n test b → firstBelow n test ≡ suc b
+pub first-found : (n : ℕ) (test : ℕ → Bool) (b : ℕ) → FirstPasses n test b → firstBelow n test ≡ some b
 unfolding firstBelow
 first-found zero test b f = absurd (omega (arith, f .there))
 first-found (suc n) test b f = go (decLe n b) (first-found n test b)
   where
-    go : Dec (n ≤ b) → (FirstPasses n test b → firstBelow n test ≡ suc b) → cond (eqb (firstBelow n test) 0) (cond (test n) (suc n) 0) (firstBelow n test) ≡ suc b
+    go : Dec (n ≤ b) → (FirstPasses n test b → firstBelow n test ≡ some b) → orElse (firstBelow n test) (ifPasses (test n) n) ≡ some b
     go (yes g) r =
         let e : n ≡ b = omega (arith, f .there) in
-        let z : firstBelow n test ≡ 0 = first-none n test (rw (← e) at (f .none-before)) in
+        let z : firstBelow n test ≡ none = first-none n test (rw (← e) at (f .none-before)) in
         let p : test n ≡ true = rw (← e) at (f .passes) in
         rw (z, p, e)
-    go (no g) r =
-        let z : firstBelow n test ≡ suc b = r (record { there = omega arith; passes = f .passes; none-before = f .none-before }) in
-        let q : eqb (firstBelow n test) 0 ≡ false = ne-eqb (firstBelow n test) 0 (λ w. omega arith) in
-        rw q z
+    go (no g) r = rw (r (record { there = omega arith; passes = f .passes; none-before = f .none-before }))
 
 pub find-first : (n : ℕ) (test : ℕ → Bool) → NonePasses n test ⊎ ((b : ℕ) × FirstPasses n test b)
 find-first zero test = inl (λ i l. absurd (omega arith))
@@ -177,20 +175,26 @@ unfolding firstBelow
 first-agree zero f g h = refl
 first-agree (suc n) f g h = rw (first-agree n f g (λ i l. h i (omega arith)), h n (omega arith))
 
--- a number that passes is at most the greatest that does, which passes too
-pub last-passes : (n : ℕ) (test : ℕ → Bool) (i : ℕ) → i < n → test i ≡ true → (i ≤ lastBelow n test) × (lastBelow n test < n) × (test (lastBelow n test) ≡ true)
+-- a number that passes is at most the last that does
+pub record LastPasses (n : ℕ) (test : ℕ → Bool) (i j : ℕ) : Type 0 where
+  pub found : lastBelow n test ≡ some j
+  pub at-least : i ≤ j
+  pub there : j < n
+  pub passes : test j ≡ true
+
+pub last-passes : (n : ℕ) (test : ℕ → Bool) (i : ℕ) → i < n → test i ≡ true → (j : ℕ) × LastPasses n test i j
 unfolding lastBelow
 last-passes zero test i l e = absurd (omega arith)
 last-passes (suc n) test i l e = go (test n) refl (λ h. last-passes n test i h e)
   where
-    go : (b : Bool) → test n ≡ b → (i < n → (i ≤ lastBelow n test) × (lastBelow n test < n) × (test (lastBelow n test) ≡ true)) → (i ≤ cond b n (lastBelow n test)) × (cond b n (lastBelow n test) < suc n) × (test (cond b n (lastBelow n test)) ≡ true)
-    go true q r = (omega arith, omega arith, q)
+    go : (b : Bool) → test n ≡ b → (i < n → (j : ℕ) × LastPasses n test i j) → (j : ℕ) × LastPasses (suc n) test i j
+    go true q r = (n, record { found = ap (λ (b : Bool). orElse (ifPasses b n) (lastBelow n test)) q; at-least = omega arith; there = omega arith; passes = q })
     go false q r =
         let h : i < n = ⊎-elim (λ (z : i ≡ n). absurd (false≢true (sym q ∙ ap test (sym z) ∙ e))) (λ lt. lt) (eq-or-lt-of-le (le-of-suc-le-suc l)) in
-        let f = r h in
-        (f .0, omega (arith, f .1), f .2)
+        let (j, f) = r h in
+        (j, record { found = ap (λ (b : Bool). orElse (ifPasses b n) (lastBelow n test)) q ∙ f .found; at-least = f .at-least; there = omega (arith, f .there); passes = f .passes })
 
-pub last-none : (n : ℕ) (test : ℕ → Bool) → NonePasses n test → lastBelow n test ≡ 0
+pub last-none : (n : ℕ) (test : ℕ → Bool) → NonePasses n test → lastBelow n test ≡ none
 unfolding lastBelow
 last-none zero test h = refl
 last-none (suc n) test h = rw (h n (omega arith)) (last-none n test (λ i l. h i (omega arith)))
@@ -200,16 +204,12 @@ unfolding lastBelow
 last-agree zero f g e = refl
 last-agree (suc n) f g e = rw (e n (omega arith), last-agree n f g (λ i h. e i (omega arith)))
 
-pub last-at-most : (n : ℕ) (test : ℕ → Bool) → lastBelow (suc n) test ≤ n
+pub last-at-most : (n : ℕ) (test : ℕ → Bool) → orZero (lastBelow n test) ≤ n - 1
 unfolding lastBelow
-last-at-most zero test = go (test 0)
+last-at-most zero test = omega arith
+last-at-most (suc n) test = go (test n) (last-at-most n test)
   where
-    go : (b : Bool) → cond b 0 0 ≤ 0
-    go true = omega arith
-    go false = omega arith
-last-at-most (suc n) test = go (test (suc n)) (last-at-most n test)
-  where
-    go : (b : Bool) → lastBelow (suc n) test ≤ n → cond b (suc n) (lastBelow (suc n) test) ≤ suc n
+    go : (b : Bool) → orZero (lastBelow n test) ≤ n - 1 → orZero (orElse (ifPasses b n) (lastBelow n test)) ≤ suc n - 1
     go true h = omega arith
     go false h = omega arith
 

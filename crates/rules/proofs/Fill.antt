@@ -2,11 +2,11 @@
 use Prim.Native.Nat.{ℕ, suc, _+_, _-_, _≤_, _<_}
 use mathlib.Core.Path.{_≡_, refl, sym, _∙_, ap}
 use mathlib.Core.List.{List, [], _++_}
-use native.Mathlib.Decide.{decLe}
+use native.Mathlib.Decide.{decLe, decLt}
 use native.Mathlib.Omega.{arith}
-use lib.ListN.{length, set, drop, length-set, length-append, length-drop, List·getD-append}
+use lib.ListN.{length, set, drop, length-set, length-append, length-drop, List·getD-append, List·getD-eq-default}
 use lib.Seq.{getD-set-same, getD-set-other, getD-drop, getD-append-add, ext-getD}
-use Rattle.rules.specs.Count.{entry, row}
+use Rattle.rules.specs.Count.{entry, row, padded}
 use Rattle.rules.proofs.Count.{length-row, entry-row}
 
 -- s is s₀ but for the places from a up to, not including, b, where it has f's values
@@ -76,3 +76,26 @@ fill-done {f} {n} {s₀} {s} r h =
         let z : k ≡ n + (k - n) = omega arith in
         r .over k m ∙ ap (entry s₀) z ∙ sym (getD-drop n s₀ (k - n) 0) ∙ sym (entry-past f n (drop n s₀) (k - n)) ∙ ap (entry (row f n ++ drop n s₀)) (sym z)
     at k (no m) = r .inside k (omega arith) (omega arith) ∙ sym (entry-in f n (drop n s₀) k (omega arith))
+
+-- ---- a list in n places
+
+module _ (f : ℕ → ℕ) where
+  pub padded-within : {m n : ℕ} → m ≤ n → (j : ℕ) → j < m → entry (padded n (row f m)) j ≡ f j
+  padded-within {m} {n} h j l = entry-row (entry (row f m)) n j (omega arith) ∙ entry-row f m j l
+
+  pub padded-beyond : {m : ℕ} (n j : ℕ) → m ≤ j → entry (padded n (row f m)) j ≡ 0
+  padded-beyond {m} n j h = go (decLt j n)
+    where
+      go : Dec (j < n) → entry (padded n (row f m)) j ≡ 0
+      go (yes l) = entry-row (entry (row f m)) n j l ∙ List·getD-eq-default (row f m) 0 (rw length-row h)
+      go (no l) = List·getD-eq-default (padded n (row f m)) 0 (rw length-row (omega arith))
+
+-- zeros whose first m places are filled with the values
+pub fill-padded :
+    {f : ℕ → ℕ} {m n : ℕ} {s₀ s : List ℕ} → Filled f 0 m s₀ s → length s₀ ≡ n → ((k : ℕ) → k < n → entry s₀ k ≡ 0) → m ≤ n → s ≡ padded n (row f m)
+fill-padded {f} {m} {n} {s₀} {s} r long zeros h =
+    ext-getD 0 s (padded n (row f m)) (r .long ∙ long ∙ sym (length-row _ n)) (λ k g. at k (omega (arith, r .long)) (decLt k m))
+  where
+    at : (k : ℕ) → k < n → Dec (k < m) → entry s k ≡ entry (padded n (row f m)) k
+    at k g (yes l) = r .inside k (omega arith) l ∙ sym (padded-within f h k l)
+    at k g (no l) = r .over k (omega arith) ∙ zeros k g ∙ sym (padded-beyond f n k (omega arith))

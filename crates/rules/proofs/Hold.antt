@@ -1,42 +1,45 @@
 -- Approach points and hold records are what the paper says, and a hold from an accepted file never breaks rule 14. Assumes nothing.
 use Prim.Native.Nat.{ℕ, zero, suc, _+_, _-_, _*_, _≤_, _<_}
-use mathlib.Core.Bool.{cond}
+use mathlib.Core.Bool.{Bool}
 use mathlib.Core.List.{List}
 use mathlib.Core.Logic.{_⊎_, inl, inr}
 use mathlib.Core.Path.{_≡_, refl, sym, ap, _∙_}
 use native.Mathlib.Decide.{decLt}
 use native.Mathlib.Nat.{mul-suc, eq-or-lt-of-le, le-of-suc-le-suc}
 use native.Mathlib.Omega.{arith}
-use lib.Dec.{leb, ltb}
-use lib.ListN.{length, List·getD-eq-default}
-use lib.Seq.{ext-getD}
-use borrow.Author.Tests.{leb-true, le-leb, lt-leb, lt-ltb, le-ltb}
-use Rattle.rules.specs.Count.{entry, row}
-use Rattle.rules.specs.File.{AreBytes, trainCount}
+use lib.Dec.{leb}
+use lib.ListN.{length}
+use borrow.Author.Tests.{leb-true, le-leb, lt-leb}
+use Rattle.rules.specs.Count.{entry, orZero}
+use Rattle.rules.specs.File.{setUpTime, releaseTime, trainCount}
 use Rattle.rules.specs.Line.{Line, Train, lineOf, trainOf}
 use Rattle.rules.specs.Run.{brakingLoss, trainCells, runRow}
-use Rattle.rules.specs.Hold.{approachPoint, holdBegin, holdEnd, blockPlaces, holdWith, holdOf}
+use Rattle.rules.specs.Hold.{approachPoint, holdBegin, holdEnd, holdWith, holdOf}
 use Rattle.rules.specs.Calls.{fileRefusal}
 use Rattle.rules.specs.Admitted.{Admitted, Rule14}
 use Rattle.rules.specs.Meaning.{Brakes, IsApproachPoint, IsHold}
-use Rattle.rules.proofs.Count.{rises-far, length-row, entry-row, last-passes, last-none, last-at-most, last-agree}
-use Rattle.rules.proofs.Fill.{Filled}
-use Rattle.rules.proofs.File.{word-most}
-use Rattle.rules.proofs.Refusal.{admitted}
+use Rattle.rules.proofs.Count.{rises-far, last-passes, last-none, last-at-most, last-agree}
+use Rattle.rules.proofs.Fill.{padded-within, padded-beyond}
+use Rattle.rules.proofs.Accepted.{admitted}
 use Rattle.rules.proofs.Time.{departs-before, arrival-most}
 
 -- ---- the approach point
 
 module _ (speeds : List ℕ) (loss b : ℕ) where
+  -- point i qualifies
+  abbrev brakes : ℕ → Bool
+  brakes i = leb (entry speeds i) (loss * (b - i))
+
   pub approach-is : IsApproachPoint speeds loss b (approachPoint speeds loss b)
   unfolding approachPoint
   approach-is =
       record {
-        at-most = last-at-most b (λ i. leb (entry speeds i) (loss * (b - i)));
+        at-most = omega (arith, last-at-most (suc b) brakes);
         greatest = λ i h.
-            let (m, n, e) = last-passes (suc b) (λ i. leb (entry speeds i) (loss * (b - i))) i (omega (arith, h .before)) (le-leb (entry speeds i) (loss * (b - i)) (h .slow)) in
-            (record { before = omega arith; slow = leb-true _ _ e }, m);
-        none = λ h. last-none (suc b) (λ i. leb (entry speeds i) (loss * (b - i))) (λ i l. lt-leb (entry speeds i) (loss * (b - i)) (fast h i l (decLt (loss * (b - i)) (entry speeds i))));
+            let (j, f) = last-passes (suc b) brakes i (omega (arith, h .before)) (le-leb (entry speeds i) (loss * (b - i)) (h .slow)) in
+            rw (f .found) (record { before = omega (arith, f .there); slow = leb-true _ _ (f .passes) }, f .at-least);
+        none = λ h.
+            rw (last-none (suc b) brakes (λ i l. lt-leb (entry speeds i) (loss * (b - i)) (fast h i l (decLt (loss * (b - i)) (entry speeds i)))));
       }
     where
       fast : ((i : ℕ) → Brakes speeds loss b i → ⊥) → (i : ℕ) → i < suc b → Dec (loss * (b - i) < entry speeds i) → loss * (b - i) < entry speeds i
@@ -94,42 +97,18 @@ module _ (speeds : List ℕ) (loss b : ℕ) where
 -- the approach point goes by the speeds up to the block
 pub approach-agree : (s r : List ℕ) (loss b : ℕ) → ((i : ℕ) → i ≤ b → entry s i ≡ entry r i) → approachPoint s loss b ≡ approachPoint r loss b
 unfolding approachPoint
-approach-agree s r loss b e = last-agree (suc b) _ _ (λ i h. rw (e i (le-of-suc-le-suc h)))
+approach-agree s r loss b e = ap orZero (last-agree (suc b) _ _ (λ i h. rw (e i (le-of-suc-le-suc h))))
 
 -- ---- the hold record
-
-places-long : (n : ℕ) (f : ℕ → ℕ) → length (blockPlaces n f) ≡ 32
-unfolding blockPlaces
-places-long n f = length-row _ 32
-
-places-within : (n : ℕ) (f : ℕ → ℕ) → n ≤ 32 → (j : ℕ) → j < n → entry (blockPlaces n f) j ≡ f j
-unfolding blockPlaces
-places-within n f m j h = entry-row (λ j. cond (ltb j n) (f j) 0) 32 j (omega arith) ∙ rw (lt-ltb j n h)
-
-places-beyond : (n : ℕ) (f : ℕ → ℕ) (j : ℕ) → n ≤ j → entry (blockPlaces n f) j ≡ 0
-unfolding blockPlaces
-places-beyond n f j h = go (decLt j 32)
-  where
-    go : Dec (j < 32) → entry (row (λ j. cond (ltb j n) (f j) 0) 32) j ≡ 0
-    go (yes l) = entry-row (λ j. cond (ltb j n) (f j) 0) 32 j l ∙ rw (le-ltb j n h)
-    go (no l) = List·getD-eq-default (row (λ j. cond (ltb j n) (f j) 0) 32) 0 (rw length-row (omega arith))
-
--- places filled up to n, with 0 from there on
-pub places-filled : {f : ℕ → ℕ} {n : ℕ} {s₀ s : List ℕ} → Filled f 0 n s₀ s → length s₀ ≡ 32 → ((k : ℕ) → k < 32 → entry s₀ k ≡ 0) → n ≤ 32 → s ≡ blockPlaces n f
-places-filled {f} {n} {s₀} {s} r long zeros m = ext-getD 0 s (blockPlaces n f) (r .long ∙ long ∙ sym (places-long n f)) (λ k g. at k (omega (arith, r .long)) (decLt k n))
-  where
-    at : (k : ℕ) → k < 32 → Dec (k < n) → entry s k ≡ entry (blockPlaces n f) k
-    at k g (yes h) = r .inside k (omega arith) h ∙ sym (places-within n f m k h)
-    at k g (no h) = r .over k (omega arith) ∙ zeros k g ∙ sym (places-beyond n f k (omega arith))
 
 pub hold-is : (l : Line) (t : Train) (speeds : List ℕ) → length (l .blockStarts) ≤ 32 → IsHold l t speeds (holdWith l t speeds)
 unfolding holdWith holdBegin holdEnd
 hold-is l t speeds m =
     record {
       count = refl;
-      begins = λ j h. (approachPoint speeds (brakingLoss l t) (entry (l .blockStarts) j), approach-is speeds (brakingLoss l t) (entry (l .blockStarts) j), places-within _ _ m j h);
-      ends = λ j h. places-within _ _ m j h;
-      beyond = λ j h. (places-beyond _ _ j h, places-beyond _ _ j h);
+      begins = λ j h. (approachPoint speeds (brakingLoss l t) (entry (l .blockStarts) j), approach-is speeds (brakingLoss l t) (entry (l .blockStarts) j), padded-within _ m j h);
+      ends = λ j h. padded-within _ m j h;
+      beyond = λ j h. (padded-beyond _ 32 j h, padded-beyond _ 32 j h);
     }
 
 -- ---- its block is cleared on the line
@@ -164,7 +143,7 @@ hold-fits l t a s r =
 
 -- the hold of a train of an accepted file
 pub file-hold :
-    (file : List ℕ) → AreBytes file → fileRefusal file ≡ 0 → (k : ℕ) → k < trainCount file →
+    (file : List ℕ) → setUpTime file < 65536 → releaseTime file < 65536 → fileRefusal file ≡ 0 → (k : ℕ) → k < trainCount file →
     Rule14 (length (lineOf file .blockStarts)) (holdOf (lineOf file) (trainOf file k))
 unfolding lineOf
-file-hold file b ok k h = hold-fits (lineOf file) (trainOf file k) (admitted file ok k h) (word-most file b 8) (word-most file b 10)
+file-hold file s r ok k h = hold-fits (lineOf file) (trainOf file k) (admitted file ok k h) s r

@@ -4,8 +4,8 @@ pub mod Fill
 pub mod File
 pub mod Rules
 pub mod Refusal
+pub mod Accepted
 pub mod Calls
-pub mod Pairs
 pub mod Cap
 pub mod Step
 pub mod Sweep
@@ -21,6 +21,5 @@ pub mod Decimal
 pub mod Text
 pub mod Written
 pub mod Lengths
-pub mod Studies
+pub mod Answers
 pub mod Room
-pub mod Sample

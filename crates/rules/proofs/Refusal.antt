@@ -1,6 +1,5 @@
--- The number of refusal is the first broken rule's, for file calls the lowest; an accepted file gives the rules' properties for each
--- of its trains. Assumes nothing.
-use Prim.Native.Nat.{ℕ, zero, suc, _+_, _≤_, _<_, min}
+-- The number of refusal of a list of rules: the first broken rule's, and the lowest where the numbers rise. Assumes nothing.
+use Prim.Native.Nat.{ℕ, zero, suc, _≤_, _<_, min}
 use mathlib.Core.Bool.{Bool, true, false, cond, false≢true}
 use mathlib.Core.List.{List, [], _∷_, _++_}
 use mathlib.Core.Logic.{_⊎_, inl, inr, ⊎-elim}
@@ -11,17 +10,10 @@ use native.Mathlib.Nat.{le-of-eq, eq-or-lt-of-le}
 use native.Mathlib.Omega.{arith}
 use lib.Dec.{eqb}
 use lib.ListN.{length, getD}
-use borrow.Author.Tests.{le-leb, lt-leb, leb-true, ltb-true, lt-ltb, le-ltb, eqb-true, eqb-false, eq-eqb, ne-eqb}
-use Rattle.rules.specs.Count.{_and_}
-use Rattle.rules.specs.File.{trainCount, announcedEnd}
-use Rattle.rules.specs.Line.{lineOf, trainOf}
-use Rattle.rules.specs.Refusal.{Rule, rule, firstBroken, numberOr0, refusal, lowerOf, whole, nothingAfter, trainSizes, sizesRule, bandsRule, stopsRule, lastBlockRule, fileRules, trainThere, trainRules, buffersLong, runRules}
-use Rattle.rules.specs.Calls.{fileRefusal, trainRefusal, runRefusal}
-use Rattle.rules.specs.Admitted.{Rule3Line, Admitted}
+use borrow.Author.Tests.{eqb-true, eqb-false, eq-eqb, ne-eqb}
+use Rattle.rules.specs.Count.{_and_, orZero}
+use Rattle.rules.specs.Refusal.{Rule, rule, firstBroken, refusal, lowerOf, TrainRule, decided}
 use Rattle.rules.specs.Meaning.{noRule, IsFirstBroken, IsLowestBroken}
-use Rattle.rules.proofs.Count.{and-left, and-right, every-at}
-use Rattle.rules.proofs.File.{parallel}
-use Rattle.rules.proofs.Rules.{rule-3-line, rule-3-train, rule-4, rule-5, rule-6, rule-7, rule-8, rule-9}
 
 -- ---- any list of rules
 
@@ -96,7 +88,7 @@ pub lowest-broken : (rules : List Rule) → Rising 0 rules → IsLowestBroken ru
 unfolding refusal
 lowest-broken rules s = go (firstBroken rules) (first-broken-is rules)
   where
-    go : (o : Option ℕ) → IsFirstBroken rules o → IsLowestBroken rules (numberOr0 o)
+    go : (o : Option ℕ) → IsFirstBroken rules o → IsLowestBroken rules (orZero o)
     go none f =
         record {
           none-broken = λ z. f .none-broken refl;
@@ -121,38 +113,71 @@ lowest-broken rules s = go (firstBroken rules) (first-broken-is rules)
             i-le : (j < i → ⊥) → i ≤ j
             i-le g = omega arith
 
--- ---- rules behind others
+-- ---- rules with numbers above 0
 
-append-is : (m : ℕ) (rs qs : List Rule) → Rising m rs → refusal (rs ++ qs) ≡ cond (eqb (refusal rs) 0) (refusal qs) (refusal rs)
+abbrev pub Positive : List Rule → Type 0
+Positive [] = Unit {0}
+Positive (r ∷ rs) = (0 < r .number) × Positive rs
+
+module _ (n : ℕ) (b : Bool) (rs : List Rule) where
+  -- the first of some rules, broken or kept
+  pub head-broken : b ≡ false → refusal (rule n b ∷ rs) ≡ n
+  head-broken e = refusal-cons n b rs ∙ rw e
+
+  pub head-kept : b ≡ true → refusal (rule n b ∷ rs) ≡ refusal rs
+  head-kept e = refusal-cons n b rs ∙ rw e
+
+  pub head-accepted : 0 < n → refusal (rule n b ∷ rs) ≡ 0 → (b ≡ true) × (refusal rs ≡ 0)
+  head-accepted p z = go b (sym (refusal-cons n b rs) ∙ z)
+    where
+      go : (c : Bool) → cond c (refusal rs) n ≡ 0 → (c ≡ true) × (refusal rs ≡ 0)
+      go true e = (refl, e)
+      go false e = absurd (omega arith)
+
+  -- the number that the code holds: n where the test that it holds fails, else what the later rules give
+  pub kept-of : {r later : ℕ} {kept : Bool} → r ≡ cond kept later n → kept ≡ b → later ≡ refusal rs → r ≡ refusal (rule n b ∷ rs)
+  kept-of e f g = e ∙ rw (f, g) (sym (refusal-cons n b rs))
+
+append-is : (rs qs : List Rule) → Positive rs → refusal (rs ++ qs) ≡ cond (eqb (refusal rs) 0) (refusal qs) (refusal rs)
 unfolding refusal firstBroken
-append-is m [] qs s = refl
-append-is m (r ∷ rs) qs s = go (r .kept) (append-is (r .number) rs qs (s .1))
+append-is [] qs s = refl
+append-is (r ∷ rs) qs s = go (r .kept) (append-is rs qs (s .1))
   where
-    go : (c : Bool) → numberOr0 (firstBroken (rs ++ qs)) ≡ cond (eqb (numberOr0 (firstBroken rs)) 0) (numberOr0 (firstBroken qs)) (numberOr0 (firstBroken rs)) →
-        numberOr0 (cond c (firstBroken (rs ++ qs)) (some (r .number))) ≡
-        cond (eqb (numberOr0 (cond c (firstBroken rs) (some (r .number)))) 0) (numberOr0 (firstBroken qs)) (numberOr0 (cond c (firstBroken rs) (some (r .number))))
+    go :
+        (c : Bool) →
+        orZero (firstBroken (rs ++ qs)) ≡ cond (eqb (orZero (firstBroken rs)) 0) (orZero (firstBroken qs)) (orZero (firstBroken rs)) →
+        orZero (cond c (firstBroken (rs ++ qs)) (some (r .number))) ≡
+        cond (eqb (orZero (cond c (firstBroken rs) (some (r .number)))) 0) (orZero (firstBroken qs)) (orZero (cond c (firstBroken rs) (some (r .number))))
     go true h = h
     go false h = rw (ne-eqb (r .number) 0 (λ z. omega (arith, s .0)))
 
-module _ (rs qs : List Rule) (s : Rising 0 rs) where
+module _ (rs qs : List Rule) (s : Positive rs) where
   -- the rules in front come first
   pub append-refused : (refusal rs ≡ 0 → ⊥) → refusal (rs ++ qs) ≡ refusal rs
-  append-refused h = rw (append-is 0 rs qs s, ne-eqb (refusal rs) 0 h)
+  append-refused h = rw (append-is rs qs s, ne-eqb (refusal rs) 0 h)
 
   pub append-kept : refusal rs ≡ 0 → refusal (rs ++ qs) ≡ refusal qs
-  append-kept z = rw (append-is 0 rs qs s, eq-eqb (refusal rs) 0 z)
+  append-kept z = rw (append-is rs qs s, eq-eqb (refusal rs) 0 z)
 
   pub append-accepted : refusal (rs ++ qs) ≡ 0 → (refusal rs ≡ 0) × (refusal qs ≡ 0)
-  append-accepted z = go (eqb (refusal rs) 0) refl (sym (append-is 0 rs qs s) ∙ z)
+  append-accepted z = go (eqb (refusal rs) 0) refl (sym (append-is rs qs s) ∙ z)
     where
       go : (e : Bool) → eqb (refusal rs) 0 ≡ e → cond e (refusal qs) (refusal rs) ≡ 0 → (refusal rs ≡ 0) × (refusal qs ≡ 0)
       go true q h = (eqb-true (refusal rs) 0 q, h)
       go false q h = absurd (eqb-false (refusal rs) 0 q h)
 
--- one rule more
-pub one-accepted : (n : ℕ) (b : Bool) → 0 < n → refusal (rule n b ∷ []) ≡ 0 → b ≡ true
-one-accepted n true p z = refl
-one-accepted n false p z = absurd (omega (arith, refusal-cons n false []))
+-- numbers up to m
+abbrev pub AtMost : ℕ → List Rule → Type 0
+AtMost m [] = Unit {0}
+AtMost m (r ∷ rs) = (r .number ≤ m) × AtMost m rs
+
+pub refusal-most : (m : ℕ) (rules : List Rule) → AtMost m rules → refusal rules ≤ m
+refusal-most m [] h = omega (arith, refusal-none)
+refusal-most m (r ∷ rs) h = rw (refusal-cons (r .number) (r .kept) rs) (go (r .kept) (refusal-most m rs (h .1)))
+  where
+    go : (b : Bool) → refusal rs ≤ m → cond b (refusal rs) (r .number) ≤ m
+    go true g = g
+    go false g = h .0
 
 -- ---- rules that are kept by two things if each keeps them
 
@@ -179,133 +204,57 @@ lower-cons n false true x y z p r s e = rw (ne-eqb n 0 (λ w. omega arith)) (go 
     go false q r = ⊎-elim (λ w. absurd (eqb-false y 0 q w)) (λ l. omega arith) r
 lower-cons n false false x y z p r s e = rw (ne-eqb n 0 (λ w. omega arith)) (omega arith)
 
--- rules 7 to 9 of some trains and of one more
-pub lower-three :
-    (a₇ b₇ a₈ b₈ a₉ b₉ : Bool) →
-    refusal (rule 7 (a₇ and b₇) ∷ rule 8 (a₈ and b₈) ∷ rule 9 (a₉ and b₉) ∷ []) ≡
-    lowerOf (refusal (rule 7 a₇ ∷ rule 8 a₈ ∷ rule 9 a₉ ∷ [])) (refusal (rule 7 b₇ ∷ rule 8 b₈ ∷ rule 9 b₉ ∷ []))
-lower-three a₇ b₇ a₈ b₈ a₉ b₉ =
-    simp (refusal-cons, refusal-none)
-    (lower-cons 7 a₇ b₇ _ _ _ (omega arith) (to8 a₈ a₉) (to8 b₈ b₉)
-    (lower-cons 8 a₈ b₈ _ _ _ (omega arith) (to9 a₉) (to9 b₉)
-    (lower-cons 9 a₉ b₉ 0 0 0 (omega arith) (inl refl) (inl refl) none-lower)))
+-- rules of trains whose numbers rise, the first above m
+abbrev pub RisingTests : ℕ → List TrainRule → Type 0
+RisingTests m [] = Unit {0}
+RisingTests m (r ∷ rs) = (m < r .number) × RisingTests (r .number) rs
+
+pub positive-decided : (m : ℕ) (rs : List TrainRule) → RisingTests m rs → (f : TrainRule → Bool) → Positive (decided f rs)
+unfolding decided
+positive-decided m [] s f = s
+positive-decided m (r ∷ rs) s f = (omega (arith, s .0), positive-decided (r .number) rs (s .1) f)
+
+decided-cons :
+    (f : TrainRule → Bool) (r : TrainRule) (rs : List TrainRule) → refusal (decided f (r ∷ rs)) ≡ cond (f r) (refusal (decided f rs)) (r .number)
+unfolding decided
+decided-cons f r rs = refusal-cons (r .number) (f r) (decided f rs)
+
+decided-none : (f : TrainRule → Bool) → refusal (decided f []) ≡ 0
+unfolding decided
+decided-none f = refusal-none
+
+beyond-decided : (m : ℕ) (rs : List TrainRule) → RisingTests m rs → (f : TrainRule → Bool) → Beyond m (refusal (decided f rs))
+beyond-decided m [] s f = inl (decided-none f)
+beyond-decided m (r ∷ rs) s f = rw decided-cons (beyond-cons m (r .number) (f r) _ (s .0) (beyond-decided (r .number) rs (s .1) f))
+
+-- the number by both of two tests is the lower of the numbers by each
+pub decided-both :
+    (m : ℕ) (rs : List TrainRule) → RisingTests m rs → (f g : TrainRule → Bool) →
+    refusal (decided (λ r. f r and g r) rs) ≡ lowerOf (refusal (decided f rs)) (refusal (decided g rs))
+decided-both m [] s f g = simp decided-none none-lower
   where
     none-lower : 0 ≡ lowerOf 0 0
     none-lower = unfold lowerOf in refl
+decided-both m (r ∷ rs) s f g =
+    simp decided-cons
+    (lower-cons (r .number) (f r) (g r) _ _ _ (omega (arith, s .0)) (beyond-decided (r .number) rs (s .1) f)
+    (beyond-decided (r .number) rs (s .1) g) (decided-both (r .number) rs (s .1) f g))
 
-    to9 : (b : Bool) → Beyond 8 (cond b 0 9)
-    to9 b = beyond-cons 8 9 b 0 (omega arith) (inl refl)
+-- tests that all pass
+pub decided-true : (rs : List TrainRule) → refusal (decided (λ r. true) rs) ≡ 0
+decided-true [] = decided-none _
+decided-true (r ∷ rs) = rw decided-cons (decided-true rs)
 
-    to8 : (a b : Bool) → Beyond 7 (cond a (cond b 0 9) 8)
-    to8 a b = beyond-cons 7 8 a (cond b 0 9) (omega arith) (to9 b)
+-- 0 is lower than nothing
+pub lower-none : (a b : ℕ) → lowerOf a b ≡ 0 → (a ≡ 0) × (b ≡ 0)
+unfolding lowerOf
+lower-none a b e = go (eqb a 0) refl (eqb b 0) refl e
+  where
+    go : (x : Bool) → eqb a 0 ≡ x → (y : Bool) → eqb b 0 ≡ y → cond x b (cond y a (min a b)) ≡ 0 → (a ≡ 0) × (b ≡ 0)
+    go true p y q e = (eqb-true a 0 p, e)
+    go false p true q e = absurd (eqb-false a 0 p e)
+    go false p false q e = absurd (omega (arith, eqb-false a 0 p, eqb-false b 0 q))
 
--- ---- rules 1 and 2, by the announced end and the file's length
-
-abbrev pub structureRules : List ℕ → List Rule
-structureRules file = rule 1 (whole file) ∷ rule 2 (nothingAfter file) ∷ []
-
-module _ (file : List ℕ) where
-  pub ends-early : length file < announcedEnd file → refusal (structureRules file) ≡ 1
-  unfolding whole
-  ends-early h = rw (refusal-cons, lt-leb (announcedEnd file) (length file) h)
-
-  pub bytes-follow : announcedEnd file < length file → refusal (structureRules file) ≡ 2
-  unfolding whole nothingAfter
-  bytes-follow h =
-      rw (refusal-cons, le-leb (announcedEnd file) (length file) (omega arith), refusal-cons, lt-leb (length file) (announcedEnd file) h)
-
-  pub ends-there : announcedEnd file ≡ length file → refusal (structureRules file) ≡ 0
-  unfolding whole nothingAfter
-  ends-there e =
-      rw (
-        refusal-cons,
-        le-leb (announcedEnd file) (length file) (omega arith),
-        refusal-cons,
-        le-leb (length file) (announcedEnd file) (omega arith),
-        refusal-none,
-      )
-
--- ---- the file calls
-
-module _ (file : List ℕ) where
-  pub file-rising : Rising 0 (fileRules file)
-  file-rising = omega arith
-
-  pub train-rising : (k : ℕ) → Rising 0 (trainRules file k)
-  train-rising k = omega arith
-
-  pub file-lowest : IsLowestBroken (fileRules file) (fileRefusal file)
-  unfolding fileRefusal
-  file-lowest = lowest-broken (fileRules file) file-rising
-
-  pub train-lowest : (k : ℕ) → IsLowestBroken (trainRules file k) (trainRefusal file k)
-  unfolding trainRefusal
-  train-lowest k = lowest-broken (trainRules file k) (train-rising k)
-
-  pub run-lowest : (k speeds times : ℕ) → IsLowestBroken (runRules file k speeds times) (runRefusal file k speeds times)
-  unfolding runRefusal
-  run-lowest k speeds times = lowest-broken (runRules file k speeds times) (omega arith)
-
-  -- a train that is not refused: the file is accepted, and has it
-  pub train-accepted : (k : ℕ) → trainRefusal file k ≡ 0 → (fileRefusal file ≡ 0) × (k < trainCount file)
-  unfolding fileRefusal trainRefusal trainThere
-  train-accepted k z =
-      let both = append-accepted (fileRules file) (rule 10 (trainThere file k) ∷ []) file-rising z in
-      (both .0, ltb-true k (trainCount file) (one-accepted 10 (trainThere file k) (omega arith) (both .1)))
-
-  -- the file's rules come first, then 10, then 11
-  pub train-refused : (k : ℕ) → (fileRefusal file ≡ 0 → ⊥) → trainRefusal file k ≡ fileRefusal file
-  unfolding fileRefusal trainRefusal
-  train-refused k h = append-refused (fileRules file) (rule 10 (trainThere file k) ∷ []) file-rising h
-
-  pub train-missing : (k : ℕ) → fileRefusal file ≡ 0 → trainCount file ≤ k → trainRefusal file k ≡ 10
-  unfolding fileRefusal trainRefusal trainThere
-  train-missing k z h =
-      append-kept (fileRules file) (rule 10 (trainThere file k) ∷ []) file-rising z ∙ refusal-cons 10 (trainThere file k) [] ∙ rw (le-ltb k (trainCount file) h)
-
-  pub train-there : (k : ℕ) → fileRefusal file ≡ 0 → k < trainCount file → trainRefusal file k ≡ 0
-  unfolding fileRefusal trainRefusal trainThere
-  train-there k z h =
-      append-kept (fileRules file) (rule 10 (trainThere file k) ∷ []) file-rising z ∙ refusal-cons 10 (trainThere file k) [] ∙ rw (lt-ltb k (trainCount file) h, refusal-none)
-
-  pub run-refused : (k speeds times : ℕ) → (trainRefusal file k ≡ 0 → ⊥) → runRefusal file k speeds times ≡ trainRefusal file k
-  unfolding trainRefusal runRefusal
-  run-refused k speeds times h = append-refused (trainRules file k) (rule 11 (buffersLong (lineOf file) speeds times) ∷ []) (train-rising k) h
-
-  pub run-by-buffers : (k speeds times : ℕ) → trainRefusal file k ≡ 0 → runRefusal file k speeds times ≡ cond (buffersLong (lineOf file) speeds times) 0 11
-  unfolding trainRefusal runRefusal
-  run-by-buffers k speeds times z =
-      append-kept (trainRules file k) (rule 11 (buffersLong (lineOf file) speeds times) ∷ []) (train-rising k) z
-      ∙ refusal-cons 11 (buffersLong (lineOf file) speeds times) [] ∙ rw refusal-none
-
-  -- a run that is not refused: the train is not, and both buffers have P entries
-  pub run-accepted : (k speeds times : ℕ) → runRefusal file k speeds times ≡ 0 → (trainRefusal file k ≡ 0) × (lineOf file .points ≤ speeds) × (lineOf file .points ≤ times)
-  unfolding runRefusal trainRefusal buffersLong
-  run-accepted k speeds times z =
-      let both = append-accepted (trainRules file k) (rule 11 (buffersLong (lineOf file) speeds times) ∷ []) (train-rising k) z in
-      let long = one-accepted 11 (buffersLong (lineOf file) speeds times) (omega arith) (both .1) in
-      (both .0, leb-true _ speeds (and-left _ _ long), leb-true _ times (and-right _ _ long))
-
-  -- ---- an accepted file
-
-  module _ (ok : fileRefusal file ≡ 0) where
-    pub sizes-kept : sizesRule file ≡ true
-    sizes-kept = file-lowest .none-broken ok 2 (omega arith)
-
-    pub line-sizes : Rule3Line (lineOf file) (trainCount file)
-    line-sizes = rule-3-line (lineOf file) (trainCount file) .0 (and-left _ _ sizes-kept)
-
-    pub admitted : (k : ℕ) → k < trainCount file → Admitted (lineOf file) (trainOf file k)
-    admitted k h =
-        record {
-          trainCount = trainCount file;
-          rule3Line = line-sizes;
-          rule3Train = rule-3-train (trainOf file k) .0 (every-at (λ k. trainSizes (trainOf file k)) (trainCount file) (and-right _ _ sizes-kept) k h);
-          rule4 = rule-4 (lineOf file) .0 (file-lowest .none-broken ok 3 (omega arith));
-          rule5 = rule-5 (lineOf file) .0 (file-lowest .none-broken ok 4 (omega arith));
-          rule6 = rule-6 (lineOf file) .0 (file-lowest .none-broken ok 5 (omega arith));
-          rule7 = rule-7 (trainOf file k) .0 (every-at (λ k. bandsRule (trainOf file k)) (trainCount file) (file-lowest .none-broken ok 6 (omega arith)) k h);
-          rule8 = rule-8 (lineOf file) (trainOf file k) .0 (every-at (λ k. stopsRule (lineOf file) (trainOf file k)) (trainCount file) (file-lowest .none-broken ok 7 (omega arith)) k h);
-          rule9 = rule-9 (lineOf file) (trainOf file k) .0 (every-at (λ k. lastBlockRule (lineOf file) (trainOf file k)) (trainCount file) (file-lowest .none-broken ok 8 (omega arith)) k h);
-          parallel = parallel file _;
-        }
+pub lower-zero : {a b : ℕ} → a ≡ 0 → b ≡ 0 → lowerOf a b ≡ 0
+unfolding lowerOf
+lower-zero e f = rw (e, f)

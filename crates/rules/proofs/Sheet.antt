@@ -83,7 +83,7 @@ block-is s h =
           let some-binds : NonePasses (s .blocks) test → ⊥ = λ fails. let (b, l, e) = start-binds s h p in loose b (fails b l) e in
           let found : (b : ℕ) × FirstPasses (s .blocks) test b = ⊎-elim (λ fails. absurd (some-binds fails)) (λ f. f) (find-first (s .blocks) test) in
           let (b, f) = found in
-          let named : blockNamed s h (leastStart s h) ≡ b + 1 = rw (ne-eqb (leastStart s h) 0 (λ z. omega arith), add-one) (first-found (s .blocks) test b f) in
+          let named : blockNamed s h (leastStart s h) ≡ b + 1 = rw (ne-eqb (leastStart s h) 0 (λ z. omega arith), first-found (s .blocks) test b f, add-one) in
           (b, f .there, named, eqb-true (leastStart s h + begin h b) (freeTime s b) (f .passes), λ c l. loose c (f .none-before c l));
     }
 

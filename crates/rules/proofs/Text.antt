@@ -7,7 +7,7 @@ use native.Mathlib.Nat.{add-zero, zero-add}
 use native.Mathlib.Omega.{arith}
 use lib.ListN.{length, getD, take, length-take}
 use borrow.Author.Tests.{le-leb, lt-leb, eq-eqb, ne-eqb}
-use Rattle.rules.specs.File.{AreBytes, trainCount}
+use Rattle.rules.specs.File.{setUpTime, releaseTime, trainCount}
 use Rattle.rules.specs.Line.{lineOf, trainOf}
 use Rattle.rules.specs.Hold.{emptyHold, holdOf}
 use Rattle.rules.specs.Sheet.{fresh}
@@ -15,7 +15,7 @@ use Rattle.rules.specs.Refusal.{firstBroken}
 use Rattle.rules.specs.Calls.{Answer, accepted, refused, fileRefusal}
 use Rattle.rules.specs.Demand.{starts, refusalOf, LeastStarts}
 use Rattle.rules.specs.Text.{header, refusalText, joined, holdsFrom, fileAnswers, lineOfTrain, sheetText, programText}
-use Rattle.rules.proofs.Refusal.{line-sizes}
+use Rattle.rules.proofs.Accepted.{line-sizes}
 use Rattle.rules.proofs.Hold.{file-hold}
 use Rattle.rules.proofs.Sheet.{rule-13, rule-14}
 use Rattle.rules.proofs.Demand.{third-demand}
@@ -41,9 +41,11 @@ starts-few (accepted start block ∷ got) = omega (arith, starts-few got)
 starts-few (refused n ∷ got) = omega (arith, starts-few got)
 
 -- each is accepted
-pub file-answers : (file : List ℕ) → AreBytes file → fileRefusal file ≡ 0 → (k : ℕ) → k < trainCount file → refusalOf (getD (fileAnswers file) k (refused 0)) ≡ none
+pub file-answers :
+    (file : List ℕ) → setUpTime file < 65536 → releaseTime file < 65536 → fileRefusal file ≡ 0 → (k : ℕ) → k < trainCount file →
+    refusalOf (getD (fileAnswers file) k (refused 0)) ≡ none
 unfolding fileAnswers firstBroken
-file-answers file b ok k h =
+file-answers file s r ok k h =
     let sizes = line-sizes file ok in
     let blocks : ℕ = length (lineOf file .blockStarts) in
     let calls = holdsFrom file 0 (trainCount file) in
@@ -53,7 +55,7 @@ file-answers file b ok k h =
     ∙ rw (
       at,
       rule-13 (length (starts (take k (fileAnswers file)))) .1 (λ e. omega (arith, starts-few (take k (fileAnswers file)), length-take k (fileAnswers file), sizes .trains-most)),
-      rule-14 _ _ .1 (file-hold file b ok k h),
+      rule-14 _ _ .1 (file-hold file s r ok k h),
     )
 
 -- ---- the text

@@ -5,7 +5,7 @@ use mathlib.Core.List.{List, [], _++_}
 use mathlib.Core.Option.{Option, none, some}
 use lib.Dec.{eqb}
 use lib.ListN.{length, take, drop}
-use Rattle.rules.specs.File.{recordBytes}
+use Rattle.rules.specs.File.{recordAt, recordSize, recordBytes}
 use Rattle.rules.specs.Line.{lineOf, trainOf}
 use Rattle.rules.specs.Run.{runRow}
 use Rattle.rules.specs.Time.{runTimes}
@@ -16,6 +16,20 @@ use Rattle.rules.specs.Refusal.{refusal, firstBroken, fileRules, trainRu
 -- a buffer with the entries from place `at` on replaced by the values; the others stay
 unfoldable pub written : List ℕ → ℕ → List ℕ → List ℕ
 written buffer at values = take at buffer ++ (values ++ drop (at + length values) buffer)
+
+-- ---- calls that write bytes: the number 0 and how many are written, or the number of refusal and 0
+
+pub record WriteAnswer : Type 0 where
+  pub number : ℕ
+  pub bytes : ℕ
+
+-- the answer of a call that has this number of refusal, or 0, and this text to write
+unfoldable pub writeAnswer : ℕ → List ℕ → WriteAnswer
+writeAnswer number text = cond (eqb number 0) (record { number = 0; bytes = length text }) (record { number = number; bytes = 0 })
+
+-- the lent bytes then: they begin with the text; on a refusal every value is kept
+unfoldable pub bytesAfter : ℕ → List ℕ → List ℕ → List ℕ
+bytesAfter number text buffer = cond (eqb number 0) (written buffer 0 text) buffer
 
 -- ---- file calls: 0, or the number of refusal
 
@@ -28,6 +42,17 @@ trainRefusal file k = refusal (trainRules file k)
 -- the part handed out for train k: its record, or the empty part on a refusal
 unfoldable pub trainRecord : List ℕ → ℕ → List ℕ
 trainRecord file k = cond (eqb (trainRefusal file k) 0) (recordBytes file k) []
+
+-- where that record stands: the number 0, its first byte and how many bytes it has, or the number of refusal, 0 and 0
+pub record RecordPlace : Type 0 where
+  pub number : ℕ
+  pub start : ℕ
+  pub bytes : ℕ
+
+unfoldable pub recordPlace : List ℕ → ℕ → RecordPlace
+recordPlace file k =
+    cond (eqb (trainRefusal file k) 0) (record { number = 0; start = recordAt file k; bytes = recordSize file (recordAt file k) })
+    (record { number = trainRefusal file k; start = 0; bytes = 0 })
 
 -- the run call and the hold call, by the lengths of the lent buffers
 unfoldable pub runRefusal : List ℕ → ℕ → ℕ → ℕ → ℕ
@@ -44,11 +69,11 @@ timesAfter file k speeds times =
 
 -- ---- the hold call: the hold record and the number 0, or the number of refusal and a record of no blocks
 
-pub record Holding : Type 0 where
+pub record HoldAnswer : Type 0 where
   pub number : ℕ
   pub hold : Hold
 
-unfoldable pub held : List ℕ → ℕ → ℕ → ℕ → Holding
+unfoldable pub held : List ℕ → ℕ → ℕ → ℕ → HoldAnswer
 held file k speeds times =
     cond (eqb (runRefusal file k speeds times) 0) (record { number = 0; hold = holdOf (lineOf file) (trainOf file k) })
     (record { number = runRefusal file k speeds times; hold = emptyHold })
@@ -94,20 +119,20 @@ added s h = addition s h (firstBroken (addingRules s h))
 
 -- ---- the headway call: the second's start on a sheet of these two, or the first refusal met
 
-pub data Headway : Type 0 where
-  headwayOf : ℕ → Headway
-  noHeadway : ℕ → Headway
+pub data HeadwayAnswer : Type 0 where
+  headwayOf : ℕ → HeadwayAnswer
+  noHeadway : ℕ → HeadwayAnswer
 
 -- an accepted call goes on to what follows; a refusal is passed on
-abbrev pub passOn : Answer → Headway → Headway
+abbrev pub passOn : Answer → HeadwayAnswer → HeadwayAnswer
 passOn (accepted start block) next = next
 passOn (refused n) next = noHeadway n
 
-abbrev pub startOrRefusal : Answer → Headway
+abbrev pub startOrRefusal : Answer → HeadwayAnswer
 startOrRefusal (accepted start block) = headwayOf start
 startOrRefusal (refused n) = noHeadway n
 
-unfoldable pub headway : Hold → Hold → Headway
+unfoldable pub headway : Hold → Hold → HeadwayAnswer
 headway first second =
     let opening = opened (first .blocks) in
     let one = added (opening .sheet) first in

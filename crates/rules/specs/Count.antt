@@ -1,8 +1,9 @@
 -- Tests, choices and rows over the whole numbers below a count: the words that the later files are written in.
 use Prim.Native.Nat.{ℕ, zero, suc, _+_, _-_, _/_, min, max}
-use mathlib.Core.Bool.{Bool, true, false, cond}
+use mathlib.Core.Bool.{Bool, true, false}
 use mathlib.Core.List.{List, [], _∷_}
-use lib.Dec.{leb, eqb}
+use mathlib.Core.Option.{Option, none, some}
+use lib.Dec.{leb}
 use lib.ListN.{getD}
 
 infixr 35 _and_
@@ -23,6 +24,10 @@ rowFrom f a (suc k) = f a ∷ rowFrom f (suc a) k
 -- the row f 0, f 1, .., f (n - 1)
 abbrev pub row : (ℕ → ℕ) → ℕ → List ℕ
 row f n = rowFrom f 0 n
+
+-- a list in n places: 0 past its end
+abbrev pub padded : ℕ → List ℕ → List ℕ
+padded n list = row (entry list) n
 
 -- the test passes at every number below n
 unfoldable pub every : ℕ → (ℕ → Bool) → Bool
@@ -55,15 +60,35 @@ unfoldable pub lowestFrom : (ℕ → ℕ) → ℕ → ℕ → ℕ → ℕ
 lowestFrom f m a zero = m
 lowestFrom f m a (suc k) = min (f a) (lowestFrom f m (suc a) k)
 
--- the first number below n that passes the test, counted from 1; 0 where none does
-unfoldable pub firstBelow : ℕ → (ℕ → Bool) → ℕ
-firstBelow zero test = 0
-firstBelow (suc n) test = cond (eqb (firstBelow n test) 0) (cond (test n) (suc n) 0) (firstBelow n test)
+-- a number, and 0 where there is none
+abbrev pub orZero : Option ℕ → ℕ
+orZero none = 0
+orZero (some n) = n
 
--- the greatest number below n that passes the test; 0 where none does
-unfoldable pub lastBelow : ℕ → (ℕ → Bool) → ℕ
-lastBelow zero test = 0
-lastBelow (suc n) test = cond (test n) n (lastBelow n test)
+-- a place counted from 1, and 0 where there is none
+abbrev pub countedFrom1 : Option ℕ → ℕ
+countedFrom1 none = 0
+countedFrom1 (some n) = suc n
+
+-- n, where the test passed
+abbrev pub ifPasses : Bool → ℕ → Option ℕ
+ifPasses true n = some n
+ifPasses false n = none
+
+-- the first of two, where there is one
+abbrev pub orElse : Option ℕ → Option ℕ → Option ℕ
+orElse none later = later
+orElse (some n) later = some n
+
+-- the first number below n that passes the test
+unfoldable pub firstBelow : ℕ → (ℕ → Bool) → Option ℕ
+firstBelow zero test = none
+firstBelow (suc n) test = orElse (firstBelow n test) (ifPasses (test n) n)
+
+-- the last number below n that passes the test
+unfoldable pub lastBelow : ℕ → (ℕ → Bool) → Option ℕ
+lastBelow zero test = none
+lastBelow (suc n) test = orElse (ifPasses (test n) n) (lastBelow n test)
 
 -- a / b, rounded up
 unfoldable pub ceilDiv : ℕ → ℕ → ℕ

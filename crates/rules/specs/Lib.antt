@@ -11,6 +11,5 @@ pub mod Refusal
 pub mod Calls
 pub mod Demand
 pub mod Text
-pub mod Study
 pub mod Admitted
 pub mod Meaning

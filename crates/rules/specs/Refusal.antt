@@ -5,7 +5,7 @@ use mathlib.Core.List.{List, [], _∷_, _++_}
 use mathlib.Core.Option.{Option, none, some}
 use lib.Dec.{leb, ltb, eqb}
 use lib.ListN.{length}
-use Rattle.rules.specs.Count.{_and_, entry, every, within, allWithin, belowBy, risesBy}
+use Rattle.rules.specs.Count.{_and_, entry, orZero, every, within, allWithin, belowBy, risesBy}
 use Rattle.rules.specs.File.{trainCount, announcedEnd}
 use Rattle.rules.specs.Line.{Line, Train, lineOf, trainOf}
 use Rattle.rules.specs.Run.{trainCells}
@@ -26,13 +26,9 @@ unfoldable pub firstBroken : List Rule → Option ℕ
 firstBroken [] = none
 firstBroken (r ∷ rs) = cond (r .kept) (firstBroken rs) (some (r .number))
 
--- the number of a refusal, and 0 where there is none
-abbrev pub numberOr0 : Option ℕ → ℕ
-numberOr0 none = 0
-numberOr0 (some n) = n
-
+-- the number of refusal, and 0 where there is none
 unfoldable pub refusal : List Rule → ℕ
-refusal rules = numberOr0 (firstBroken rules)
+refusal rules = orZero (firstBroken rules)
 
 -- the lower of two numbers of refusal, of which 0 is none
 unfoldable pub lowerOf : ℕ → ℕ → ℕ
@@ -81,9 +77,9 @@ trainSizes t = trainNumbers (t .class) (t .trainLength) (length (t .tops)) (leng
 abbrev pub sizesRule : List ℕ → Bool
 sizesRule file = lineSizes (lineOf file) (trainCount file) and everyTrain file trainSizes
 
--- 3, of a line with one train.
-abbrev pub pairSizes : Line → Train → Bool
-pairSizes l t = lineSizes l 1 and trainSizes t
+-- 3, of one train on a line.
+abbrev pub sizesOn : Line → Train → Bool
+sizesOn l t = lineSizes l 1 and trainSizes t
 
 -- 4. Limit points begin at 0, strictly rise and do not exceed P - 2.
 unfoldable pub limitPointsRule : Line → Bool
@@ -122,32 +118,50 @@ stopsRule l t =
 unfoldable pub lastBlockRule : Line → Train → Bool
 lastBlockRule l t = leb (entry (l .blockEnds) (length (l .blockEnds) - 1) + trainCells l t) (l .points - 1)
 
--- The rules of the file in checking order. Each goes over the whole file before the next, so a lower number anywhere in the file wins.
--- A difference such as P - 2 is cut off at 0 where P is too small; then rule 3 is broken and comes first.
+-- ---- the rules in checking order
+
+-- 1 and 2: the file has the length that its sizes announce
+abbrev pub lengthRules : List ℕ → List Rule
+lengthRules file = rule 1 (whole file) ∷ rule 2 (nothingAfter file) ∷ []
+
+-- 4 to 6, of a line. A difference such as P - 2 is cut off at 0 where P is too small; then rule 3 is broken and comes first.
+abbrev pub lineRules : Line → List Rule
+lineRules l = rule 4 (limitPointsRule l) ∷ rule 5 (limitsRule l) ∷ rule 6 (blocksRule l) ∷ []
+
+-- a rule of a train on a line
+pub record TrainRule : Type 0 where
+  pub number : ℕ
+  pub kept : Line → Train → Bool
+
+abbrev pub trainRule : ℕ → (Line → Train → Bool) → TrainRule
+trainRule number kept = record { number = number; kept = kept }
+
+-- 7 to 9
+abbrev pub trainTests : List TrainRule
+trainTests = trainRule 7 (λ l. bandsRule) ∷ trainRule 8 stopsRule ∷ trainRule 9 lastBlockRule ∷ []
+
+-- such rules with the tests decided
+unfoldable pub decided : (TrainRule → Bool) → List TrainRule → List Rule
+decided kept [] = []
+decided kept (r ∷ rs) = rule (r .number) (kept r) ∷ decided kept rs
+
+-- 7 to 9, of one train
+abbrev pub oneTrainRules : Line → Train → List Rule
+oneTrainRules l t = decided (λ r. r .kept l t) trainTests
+
+-- 7 to 9, of the first n trains: each rule goes over all trains before the next, so a lower number anywhere in the file wins
+abbrev pub everyTrainRules : Line → (ℕ → Train) → ℕ → List Rule
+everyTrainRules l train n = decided (λ r. every n (λ k. r .kept l (train k))) trainTests
+
+-- 1 to 9, of a file
 abbrev pub fileRules : List ℕ → List Rule
 fileRules file =
-    rule 1 (whole file)
-    ∷ rule 2 (nothingAfter file)
-    ∷ rule 3 (sizesRule file)
-    ∷ rule 4 (limitPointsRule (lineOf file))
-    ∷ rule 5 (limitsRule (lineOf file))
-    ∷ rule 6 (blocksRule (lineOf file))
-    ∷ rule 7 (everyTrain file bandsRule)
-    ∷ rule 8 (everyTrain file (stopsRule (lineOf file)))
-    ∷ rule 9 (everyTrain file (lastBlockRule (lineOf file)))
-    ∷ []
+    lengthRules file
+    ++ (rule 3 (sizesRule file) ∷ (lineRules (lineOf file) ++ everyTrainRules (lineOf file) (trainOf file) (trainCount file)))
 
--- the rules of a line and one train, from 3 on
-abbrev pub pairRules : Line → Train → List Rule
-pairRules l t =
-    rule 3 (pairSizes l t)
-    ∷ rule 4 (limitPointsRule l)
-    ∷ rule 5 (limitsRule l)
-    ∷ rule 6 (blocksRule l)
-    ∷ rule 7 (bandsRule t)
-    ∷ rule 8 (stopsRule l t)
-    ∷ rule 9 (lastBlockRule l t)
-    ∷ []
+-- 3 to 9, of one train on a line
+abbrev pub rulesOn : Line → Train → List Rule
+rulesOn l t = rule 3 (sizesOn l t) ∷ (lineRules l ++ oneTrainRules l t)
 
 -- 10. The train number asked for is below T.
 unfoldable pub trainThere : List ℕ → ℕ → Bool

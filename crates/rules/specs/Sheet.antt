@@ -4,7 +4,7 @@ use mathlib.Core.Bool.{cond}
 use mathlib.Core.List.{List}
 use lib.Dec.{eqb}
 use lib.ListN.{set, replicate}
-use Rattle.rules.specs.Count.{entry, greatestBelow, firstBelow}
+use Rattle.rules.specs.Count.{entry, greatestBelow, countedFrom1, firstBelow}
 use Rattle.rules.specs.Hold.{Hold}
 
 -- the block count, the number of trains, and the free time of each block
@@ -33,7 +33,7 @@ leastStart s h = greatestBelow (s .blocks) (λ b. freeTime s b - begin h b)
 
 -- The block named, counted from 1: the first where start plus beginning equals the free time before the addition, or 0 if the start is 0.
 unfoldable pub blockNamed : Sheet → Hold → ℕ → ℕ
-blockNamed s h start = cond (eqb start 0) 0 (firstBelow (s .blocks) (λ b. eqb (start + begin h b) (freeTime s b)))
+blockNamed s h start = cond (eqb start 0) 0 (countedFrom1 (firstBelow (s .blocks) (λ b. eqb (start + begin h b) (freeTime s b))))
 
 -- the free times of the first n blocks become start plus end
 unfoldable pub released : ℕ → Hold → ℕ → List ℕ → List ℕ

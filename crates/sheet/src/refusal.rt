@@ -7,7 +7,7 @@ ghost use mathlib.Core.Path.{_≡_};
 ghost use Prim.Native.Nat.{_≤_};
 ghost use lib.Dec.{leb, ltb};
 ghost use Rattle.rules.specs.Count.{entry, every};
-ghost use Rattle.rules.specs.Refusal.{numberOr0, countRule, sheetRule, holdRule};
+ghost use Rattle.rules.specs.Refusal.{orZero, countRule, sheetRule, holdRule};
 ghost use Rattle.rules.specs.Calls.{refuse};
 ghost use Rattle.rules.specs.Demand.{refusalOf};
 ghost use Rattle.sheet.specs.Values.{asHold, asSheet, asAnswer, asAddition};
@@ -107,7 +107,7 @@ pub(crate) fn refused(sheet: Sheet, number: u64) -> Addition
 
 // 0 of an accepted call.
 pub(crate) fn refusal_number(answer: Answer) -> u64
-    ensures { λ r. ⌜ r ≡ numberOr0 (refusalOf (asAnswer answer)) ⌝ }
+    ensures { λ r. ⌜ r ≡ orZero (refusalOf (asAnswer answer)) ⌝ }
 {
     match answer {
         Answer::Accepted { start: _, block: _ } => 0,

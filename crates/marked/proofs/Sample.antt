@@ -4,17 +4,17 @@ use Prim.Native.Nat.{ℕ, _/_, _%_}
 use mathlib.Core.List.{List, [], _∷_, _++_}
 use mathlib.Core.Path.{_≡_, refl}
 use lib.ListN.{getD, take, replicate}
 use Rattle.rules.specs.Count.{_and_, rowFrom, every, within, greatestBelow, lowestFrom, firstBelow, lastBelow, ceilDiv}
 use Rattle.rules.specs.File.{word, words, recordAt}
 use Rattle.rules.specs.Line.{lineOf, trainAt, trainOf}
 use Rattle.rules.specs.Run.{squared, change, brakingLoss, trainCells, limitFrom, cellLimit, lastOr, lowestCovered, capSpeed, listed, capOf, cap, bandStep, bandsStep, tractionStep, forwardSweep, backwardBefore, backwardSweep, forward, runAt, runRow}
 use Rattle.rules.specs.Time.{nextDigit, rootDigits, root, cellTime, dwellFrom, dwell, arrival, departure, arrivals, runTimes}
-use Rattle.rules.specs.Hold.{Hold, approachPoint, holdBegin, holdEnd, blockPlaces, holdWith, holdOf}
+use Rattle.rules.specs.Hold.{Hold, approachPoint, holdBegin, holdEnd, holdWith, holdOf}
 use Rattle.rules.specs.Sheet.{fresh, leastStart, blockNamed, released, sheetAfter}
-use Rattle.rules.specs.Refusal.{firstBroken, refusal, whole, nothingAfter, lineSizes, trainSizes, limitPointsRule, limitsRule, blocksRule, bandsRule, stopsRule, lastBlockRule, trainThere, sheetRule, holdRule}
+use Rattle.rules.specs.Refusal.{firstBroken, refusal, whole, nothingAfter, lineSizes, trainSizes, limitPointsRule, limitsRule, blocksRule, bandsRule, stopsRule, lastBlockRule, decided, trainThere, sheetRule, holdRule}
 use Rattle.rules.specs.Calls.{fileRefusal, trainRefusal, trainRecord, accepted, added, opened, headwayOf, headway}
 use Rattle.rules.specs.Demand.{answers}
 use Rattle.rules.specs.Text.{digitsOf, decimal, field, header, trainLine, refusalText, joined, holdsFrom, fileAnswers, runningTime, lineOfTrain, sheetText, programText}
 
 -- numbers as a file has them, low byte first
 unfoldable pub bytes : List ℕ → List ℕ
@@ -100,7 +100,7 @@ pub record Middle : Type 0 where
       header ++ (49 ∷ 32 ∷ 48 ∷ 32 ∷ 50 ∷ 56 ∷ 57 ∷ 49 ∷ 51 ∷ 50 ∷ 57 ∷ 55 ∷ 51 ∷ 32 ∷ 48 ∷ 10 ∷ 50 ∷ 32 ∷ 50 ∷ 48 ∷ 50 ∷ 51 ∷ 51 ∷ 51 ∷ 55 ∷ 49 ∷ 48 ∷ 32 ∷ 50 ∷ 50 ∷ 55 ∷ 56 ∷ 55 ∷ 57 ∷ 48 ∷ 48 ∷ 49 ∷ 32 ∷ 52 ∷ 10 ∷ 51 ∷ 32 ∷ 50 ∷ 53 ∷ 52 ∷ 56 ∷ 50 ∷ 48 ∷ 50 ∷ 49 ∷ 50 ∷ 32 ∷ 50 ∷ 54 ∷ 52 ∷ 55 ∷ 50 ∷ 49 ∷ 50 ∷ 52 ∷ 48 ∷ 32 ∷ 49 ∷ 10 ∷ [])
 
 pub tables : Marked × Middle
-unfolding bytes sampleLine sampleTrain sampleWith sample middleLine middleTrain middle _and_ rowFrom every within greatestBelow lowestFrom firstBelow lastBelow ceilDiv word words recordAt lineOf trainAt squared change brakingLoss trainCells limitFrom cellLimit lastOr lowestCovered capSpeed listed capOf cap bandStep bandsStep tractionStep forwardSweep backwardBefore backwardSweep forward runAt runRow nextDigit rootDigits root cellTime dwellFrom dwell arrival departure arrivals approachPoint holdBegin holdEnd blockPlaces holdWith fresh leastStart blockNamed released sheetAfter firstBroken refusal whole nothingAfter lineSizes trainSizes limitPointsRule limitsRule blocksRule bandsRule stopsRule lastBlockRule trainThere sheetRule holdRule fileRefusal trainRefusal trainRecord added opened headway answers digitsOf decimal field header trainLine refusalText joined holdsFrom fileAnswers runningTime lineOfTrain sheetText programText
+unfolding bytes sampleLine sampleTrain sampleWith sample middleLine middleTrain middle _and_ rowFrom every within greatestBelow lowestFrom firstBelow lastBelow ceilDiv word words recordAt lineOf trainAt squared change brakingLoss trainCells limitFrom cellLimit lastOr lowestCovered capSpeed listed capOf cap bandStep bandsStep tractionStep forwardSweep backwardBefore backwardSweep forward runAt runRow nextDigit rootDigits root cellTime dwellFrom dwell arrival departure arrivals approachPoint holdBegin holdEnd holdWith fresh leastStart blockNamed released sheetAfter firstBroken refusal whole nothingAfter lineSizes trainSizes limitPointsRule limitsRule blocksRule bandsRule stopsRule lastBlockRule decided trainThere sheetRule holdRule fileRefusal trainRefusal trainRecord added opened headway answers digitsOf decimal field header trainLine refusalText joined holdsFrom fileAnswers runningTime lineOfTrain sheetText programText
 tables = (
   record {
     m1 = refl;

@@ -1,0 +1,296 @@
+-- The order of the rules in the file calls, and what an accepted file, or an accepted train on a line, is. Assumes nothing.
+use Prim.Native.Nat.{ℕ, zero, suc, _≤_, _<_}
+use mathlib.Core.Bool.{Bool, true, false, cond}
+use mathlib.Core.List.{List, [], _∷_, _++_}
+use mathlib.Core.Logic.{_↔_}
+use mathlib.Core.Path.{_≡_, refl, sym, _∙_}
+use native.Mathlib.Omega.{arith}
+use lib.ListN.{length}
+use borrow.Author.Tests.{le-leb, lt-leb, leb-true, ltb-true, lt-ltb, le-ltb}
+use Rattle.rules.specs.Count.{every}
+use Rattle.rules.specs.File.{trainCount, announcedEnd}
+use Rattle.rules.specs.Line.{Line, Train, lineOf, trainOf}
+use Rattle.rules.specs.Refusal.{Rule, rule, refusal, lowerOf, whole, nothingAfter, trainSizes, sizesRule, sizesOn}
+use Rattle.rules.specs.Refusal.{lengthRules, lineRules, trainTests, decided, oneTrainRules, everyTrainRules, fileRules, rulesOn}
+use Rattle.rules.specs.Refusal.{trainThere, trainRules, buffersLong, runRules}
+use Rattle.rules.specs.Calls.{fileRefusal, trainRefusal, runRefusal}
+use Rattle.rules.specs.Admitted.{Rule3Line, Rule4, Rule5, Rule6, Rule7, Rule8, Rule9, Parallel, Admitted}
+use Rattle.rules.specs.Meaning.{IsLowestBroken}
+use Rattle.rules.proofs.Count.{below-suc, and-left, and-right, and-both, every-at}
+use Rattle.rules.proofs.File.{parallel}
+use Rattle.rules.proofs.Rules.{rule-3-line, rule-3-train, rule-4, rule-5, rule-6, rule-7, rule-8, rule-9}
+use Rattle.rules.proofs.Refusal.{refusal-none, refusal-cons, Positive, head-broken, head-kept, head-accepted, append-refused}
+use Rattle.rules.proofs.Refusal.{append-kept, append-accepted, AtMost, refusal-most, Rising, lowest-broken, RisingTests}
+use Rattle.rules.proofs.Refusal.{decided-both, decided-true, lower-none, lower-zero}
+
+-- ---- the rules of a line, of a train, and of all trains
+
+pub line-rules : (l : Line) → (refusal (lineRules l) ≡ 0) ↔ (Rule4 l × Rule5 l × Rule6 l)
+line-rules l = (
+  λ z.
+      let (k₄, z₄) = head-accepted 4 _ _ (omega arith) z in
+      let (k₅, z₅) = head-accepted 5 _ _ (omega arith) z₄ in
+      let (k₆, z₆) = head-accepted 6 _ _ (omega arith) z₅ in
+      (rule-4 l .0 k₄, rule-5 l .0 k₅, rule-6 l .0 k₆),
+  λ r.
+      head-kept 4 _ _ (rule-4 l .1 (r .0)) ∙ head-kept 5 _ _ (rule-5 l .1 (r .1)) ∙ head-kept 6 _ _ (rule-6 l .1 (r .2)) ∙ refusal-none,
+)
+
+pub train-rules : (l : Line) (t : Train) → (refusal (oneTrainRules l t) ≡ 0) ↔ (Rule7 t × Rule8 l t × Rule9 l t)
+unfolding decided
+train-rules l t = (
+  λ z.
+      let (k₇, z₇) = head-accepted 7 _ _ (omega arith) z in
+      let (k₈, z₈) = head-accepted 8 _ _ (omega arith) z₇ in
+      let (k₉, z₉) = head-accepted 9 _ _ (omega arith) z₈ in
+      (rule-7 t .0 k₇, rule-8 l t .0 k₈, rule-9 l t .0 k₉),
+  λ r.
+      head-kept 7 _ _ (rule-7 t .1 (r .0)) ∙ head-kept 8 _ _ (rule-8 l t .1 (r .1)) ∙ head-kept 9 _ _ (rule-9 l t .1 (r .2)) ∙ refusal-none,
+)
+
+tests-rise : RisingTests 0 trainTests
+tests-rise = omega arith
+
+module _ (l : Line) (train : ℕ → Train) where
+  pub trains-none : refusal (everyTrainRules l train 0) ≡ 0
+  unfolding every
+  trains-none = decided-true trainTests
+
+  -- one train more
+  pub trains-more : (n : ℕ) → refusal (everyTrainRules l train (suc n)) ≡ lowerOf (refusal (everyTrainRules l train n)) (refusal (oneTrainRules l (train n)))
+  unfolding every
+  trains-more n = decided-both 0 trainTests tests-rise (λ r. every n (λ k. r .kept l (train k))) (λ r. r .kept l (train n))
+
+  pub trains-accepted : (n : ℕ) → refusal (everyTrainRules l train n) ≡ 0 → (k : ℕ) → k < n → refusal (oneTrainRules l (train k)) ≡ 0
+  trains-accepted zero z k h = absurd (omega arith)
+  trains-accepted (suc n) z k h =
+      let both = lower-none _ _ (sym (trains-more n) ∙ z) in
+      below-suc (λ k. refusal (oneTrainRules l (train k)) ≡ 0) n (trains-accepted n (both .0)) (both .1) k h
+
+  pub trains-kept : (n : ℕ) → ((k : ℕ) → k < n → refusal (oneTrainRules l (train k)) ≡ 0) → refusal (everyTrainRules l train n) ≡ 0
+  trains-kept zero h = trains-none
+  trains-kept (suc n) h = trains-more n ∙ lower-zero (trains-kept n (λ k l. h k (omega arith))) (h n (omega arith))
+
+-- ---- rule 3, then those of the line, then others
+
+module _ (sizes : Bool) (l : Line) (others : List Rule) where
+  abbrev fromSizes : List Rule
+  fromSizes = rule 3 sizes ∷ (lineRules l ++ others)
+
+  pub sizes-broken : sizes ≡ false → refusal fromSizes ≡ 3
+  sizes-broken e = head-broken 3 sizes _ e
+
+  module _ (e : sizes ≡ true) where
+    pub line-broken : (refusal (lineRules l) ≡ 0 → ⊥) → refusal fromSizes ≡ refusal (lineRules l)
+    line-broken h = head-kept 3 sizes _ e ∙ append-refused (lineRules l) others (omega arith) h
+
+    pub line-passed : refusal (lineRules l) ≡ 0 → refusal fromSizes ≡ refusal others
+    line-passed z = head-kept 3 sizes _ e ∙ append-kept (lineRules l) others (omega arith) z
+
+  pub each-accepted : refusal fromSizes ≡ 0 → (sizes ≡ true) × (refusal (lineRules l) ≡ 0) × (refusal others ≡ 0)
+  each-accepted z =
+      let (e, y) = head-accepted 3 sizes _ (omega arith) z in
+      let (x, w) = append-accepted (lineRules l) others (omega arith) y in
+      (e, x, w)
+
+-- ---- a train on a line
+
+module _ (l : Line) (t : Train) where
+  pub on-positive : Positive (rulesOn l t)
+  unfolding decided
+  on-positive = omega arith
+
+  pub on-admitted : refusal (rulesOn l t) ≡ 0 → Parallel l t → Admitted l t
+  on-admitted z p =
+      let (sizes, line, train) = each-accepted (sizesOn l t) l (oneTrainRules l t) z in
+      let (r₄, r₅, r₆) = line-rules l .0 line in
+      let (r₇, r₈, r₉) = train-rules l t .0 train in
+      record {
+        trainCount = 1;
+        rule3Line = rule-3-line l 1 .0 (and-left _ _ sizes);
+        rule3Train = rule-3-train t .0 (and-right _ _ sizes);
+        rule4 = r₄;
+        rule5 = r₅;
+        rule6 = r₆;
+        rule7 = r₇;
+        rule8 = r₈;
+        rule9 = r₉;
+        parallel = p;
+      }
+
+  pub on-kept : Admitted l t → refusal (rulesOn l t) ≡ 0
+  on-kept a =
+      let sizes = and-both (rule-3-line l 1 .1 one-train) (rule-3-train t .1 (a .rule3Train)) in
+      line-passed (sizesOn l t) l (oneTrainRules l t) sizes (line-rules l .1 (a .rule4, a .rule5, a .rule6))
+      ∙ train-rules l t .1 (a .rule7, a .rule8, a .rule9)
+    where
+      one-train : Rule3Line l 1
+      one-train =
+          let r = a .rule3Line in
+          record {
+            points-least = r .points-least;
+            points-most = r .points-most;
+            step-least = r .step-least;
+            step-most = r .step-most;
+            limits-least = r .limits-least;
+            limits-most = r .limits-most;
+            blocks-least = r .blocks-least;
+            blocks-most = r .blocks-most;
+            trains-least = omega arith;
+            trains-most = omega arith;
+          }
+
+-- ---- rules 1 and 2, by the announced end and the file's length
+
+module _ (file : List ℕ) where
+  pub ends-early : length file < announcedEnd file → refusal (lengthRules file) ≡ 1
+  unfolding whole
+  ends-early h = head-broken 1 _ _ (lt-leb (announcedEnd file) (length file) h)
+
+  pub bytes-follow : announcedEnd file < length file → refusal (lengthRules file) ≡ 2
+  unfolding whole nothingAfter
+  bytes-follow h =
+      head-kept 1 _ _ (le-leb (announcedEnd file) (length file) (omega arith)) ∙ head-broken 2 _ _ (lt-leb (length file) (announcedEnd file) h)
+
+  pub ends-there : announcedEnd file ≡ length file → refusal (lengthRules file) ≡ 0
+  unfolding whole nothingAfter
+  ends-there e =
+      head-kept 1 _ _ (le-leb (announcedEnd file) (length file) (omega arith))
+      ∙ head-kept 2 _ _ (le-leb (length file) (announcedEnd file) (omega arith))
+      ∙ refusal-none
+
+  -- the file has all that its sizes announce
+  pub announced-there : refusal (lengthRules file) ≡ 0 → announcedEnd file ≤ length file
+  unfolding whole
+  announced-there z = leb-true (announcedEnd file) (length file) (head-accepted 1 _ _ (omega arith) z .0)
+
+-- ---- the file calls
+
+module _ (file : List ℕ) where
+  pub file-positive : Positive (fileRules file)
+  unfolding decided
+  file-positive = omega arith
+
+  train-positive : (k : ℕ) → Positive (trainRules file k)
+  unfolding decided
+  train-positive k = omega arith
+
+  -- a lower number anywhere in the file wins
+  pub file-lowest : IsLowestBroken (fileRules file) (fileRefusal file)
+  unfolding fileRefusal decided
+  file-lowest = lowest-broken (fileRules file) (omega arith)
+
+  pub train-lowest : (k : ℕ) → IsLowestBroken (trainRules file k) (trainRefusal file k)
+  unfolding trainRefusal decided
+  train-lowest k = lowest-broken (trainRules file k) (omega arith)
+
+  pub run-lowest : (k speeds times : ℕ) → IsLowestBroken (runRules file k speeds times) (runRefusal file k speeds times)
+  unfolding runRefusal decided
+  run-lowest k speeds times = lowest-broken (runRules file k speeds times) (omega arith)
+
+  pub file-most : fileRefusal file ≤ 9
+  unfolding fileRefusal decided
+  file-most = refusal-most 9 (fileRules file) (omega arith)
+
+  -- the rules behind 1 and 2
+  abbrev allTrains : List Rule
+  allTrains = everyTrainRules (lineOf file) (trainOf file) (trainCount file)
+
+  abbrev behindLength : List Rule
+  behindLength = rule 3 (sizesRule file) ∷ (lineRules (lineOf file) ++ allTrains)
+
+  pub file-cut : (refusal (lengthRules file) ≡ 0 → ⊥) → fileRefusal file ≡ refusal (lengthRules file)
+  unfolding fileRefusal
+  file-cut h = append-refused (lengthRules file) behindLength (omega arith) h
+
+  module _ (z : refusal (lengthRules file) ≡ 0) where
+    past-length : fileRefusal file ≡ refusal behindLength
+    unfolding fileRefusal
+    past-length = append-kept (lengthRules file) behindLength (omega arith) z
+
+    pub file-sizes-broken : sizesRule file ≡ false → fileRefusal file ≡ 3
+    file-sizes-broken e = past-length ∙ sizes-broken (sizesRule file) (lineOf file) allTrains e
+
+    pub file-line-broken : sizesRule file ≡ true → (refusal (lineRules (lineOf file)) ≡ 0 → ⊥) → fileRefusal file ≡ refusal (lineRules (lineOf file))
+    file-line-broken e h = past-length ∙ line-broken (sizesRule file) (lineOf file) allTrains e h
+
+    pub file-line-passed : sizesRule file ≡ true → refusal (lineRules (lineOf file)) ≡ 0 → fileRefusal file ≡ refusal allTrains
+    file-line-passed e y = past-length ∙ line-passed (sizesRule file) (lineOf file) allTrains e y
+
+  -- a train that is not refused: the file is accepted, and has it
+  pub train-accepted : (k : ℕ) → trainRefusal file k ≡ 0 → (fileRefusal file ≡ 0) × (k < trainCount file)
+  unfolding fileRefusal trainRefusal trainThere
+  train-accepted k z =
+      let (y, x) = append-accepted (fileRules file) (rule 10 (trainThere file k) ∷ []) file-positive z in
+      (y, ltb-true k (trainCount file) (head-accepted 10 (trainThere file k) [] (omega arith) x .0))
+
+  -- the file's rules come first, then 10, then 11
+  pub train-refused : (k : ℕ) → (fileRefusal file ≡ 0 → ⊥) → trainRefusal file k ≡ fileRefusal file
+  unfolding fileRefusal trainRefusal
+  train-refused k h = append-refused (fileRules file) (rule 10 (trainThere file k) ∷ []) file-positive h
+
+  pub train-missing : (k : ℕ) → fileRefusal file ≡ 0 → trainCount file ≤ k → trainRefusal file k ≡ 10
+  unfolding fileRefusal trainRefusal trainThere
+  train-missing k z h =
+      append-kept (fileRules file) (rule 10 (trainThere file k) ∷ []) file-positive z ∙ head-broken 10 _ [] (le-ltb k (trainCount file) h)
+
+  pub train-there : (k : ℕ) → fileRefusal file ≡ 0 → k < trainCount file → trainRefusal file k ≡ 0
+  unfolding fileRefusal trainRefusal trainThere
+  train-there k z h =
+      append-kept (fileRules file) (rule 10 (trainThere file k) ∷ []) file-positive z ∙ head-kept 10 _ [] (lt-ltb k (trainCount file) h) ∙ refusal-none
+
+  pub run-refused : (k speeds times : ℕ) → (trainRefusal file k ≡ 0 → ⊥) → runRefusal file k speeds times ≡ trainRefusal file k
+  unfolding trainRefusal runRefusal
+  run-refused k speeds times h = append-refused (trainRules file k) (rule 11 (buffersLong (lineOf file) speeds times) ∷ []) (train-positive k) h
+
+  pub run-by-buffers : (k speeds times : ℕ) → trainRefusal file k ≡ 0 → runRefusal file k speeds times ≡ cond (buffersLong (lineOf file) speeds times) 0 11
+  unfolding trainRefusal runRefusal
+  run-by-buffers k speeds times z =
+      append-kept (trainRules file k) (rule 11 (buffersLong (lineOf file) speeds times) ∷ []) (train-positive k) z
+      ∙ refusal-cons 11 (buffersLong (lineOf file) speeds times) [] ∙ rw refusal-none
+
+  -- a run that is not refused: the train is not, and both buffers have P entries
+  pub run-accepted :
+      (k speeds times : ℕ) → runRefusal file k speeds times ≡ 0 →
+      (trainRefusal file k ≡ 0) × (lineOf file .points ≤ speeds) × (lineOf file .points ≤ times)
+  unfolding runRefusal trainRefusal buffersLong
+  run-accepted k speeds times z =
+      let (y, x) = append-accepted (trainRules file k) (rule 11 (buffersLong (lineOf file) speeds times) ∷ []) (train-positive k) z in
+      let long = head-accepted 11 (buffersLong (lineOf file) speeds times) [] (omega arith) x .0 in
+      (y, leb-true _ speeds (and-left _ _ long), leb-true _ times (and-right _ _ long))
+
+-- ---- an accepted file
+
+module _ (file : List ℕ) (ok : fileRefusal file ≡ 0) where
+  parts : (refusal (lengthRules file) ≡ 0) × (refusal (behindLength file) ≡ 0)
+  unfolding fileRefusal
+  parts = append-accepted (lengthRules file) (behindLength file) (omega arith) ok
+
+  behind : (sizesRule file ≡ true) × (refusal (lineRules (lineOf file)) ≡ 0) × (refusal (allTrains file) ≡ 0)
+  behind = each-accepted (sizesRule file) (lineOf file) (allTrains file) (parts .1)
+
+  pub file-there : announcedEnd file ≤ length file
+  file-there = announced-there file (parts .0)
+
+  pub sizes-kept : sizesRule file ≡ true
+  sizes-kept = behind .0
+
+  pub line-sizes : Rule3Line (lineOf file) (trainCount file)
+  line-sizes = rule-3-line (lineOf file) (trainCount file) .0 (and-left _ _ sizes-kept)
+
+  pub admitted : (k : ℕ) → k < trainCount file → Admitted (lineOf file) (trainOf file k)
+  admitted k h =
+      let (r₄, r₅, r₆) = line-rules (lineOf file) .0 (behind .1) in
+      let (r₇, r₈, r₉) = train-rules (lineOf file) (trainOf file k) .0 (trains-accepted (lineOf file) (trainOf file) (trainCount file) (behind .2) k h) in
+      record {
+        trainCount = trainCount file;
+        rule3Line = line-sizes;
+        rule3Train = rule-3-train (trainOf file k) .0 (every-at (λ k. trainSizes (trainOf file k)) (trainCount file) (and-right _ _ sizes-kept) k h);
+        rule4 = r₄;
+        rule5 = r₅;
+        rule6 = r₆;
+        rule7 = r₇;
+        rule8 = r₈;
+        rule9 = r₉;
+        parallel = parallel file _;
+      }
