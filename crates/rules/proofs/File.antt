@@ -1,15 +1,16 @@
 -- The places of the file: records follow one another, the arrays have the announced lengths, and the literal scan reads to the
 -- announced end exactly where rule 1 is kept. Assumes nothing.
-use Prim.Native.Nat.{ℕ, zero, suc, _+_, _*_, _/_, _%_, _≤_, _<_}
+use Prim.Native.Nat.{ℕ, zero, suc, _+_, _-_, _*_, _/_, _%_, _≤_, _<_}
 use mathlib.Core.Bool.{Bool, true, false, cond}
 use mathlib.Core.List.{List}
 use mathlib.Core.Logic.{_↔_, ⊎-elim}
-use mathlib.Core.Path.{_≡_, refl, sym, ap, _∙_}
+use mathlib.Core.Path.{_≡_, refl, sym, ap, ap₂, _∙_}
 use native.Mathlib.Nat.{le-antisymm, le-of-eq, le-of-suc-le-suc, eq-or-lt-of-le, zero-add, add-zero}
 use native.Mathlib.Numerals.{add-one}
 use native.Mathlib.Omega.{arith}
 use lib.Dec.{leb}
-use lib.ListN.{length}
+use lib.ListN.{length, take, drop, length-drop}
+use lib.Seq.{getD-drop, take-all}
 use borrow.Author.Tests.{le-leb, lt-leb, leb-true, leb-false}
 use Rattle.rules.specs.Count.{entry}
 use Rattle.rules.specs.File.{AreBytes, word, words, sizesEnd, limitCount, blockCount, trainCount, trainsAt, bandCount, stopCount, recordEnd, recordAt, announcedEnd}
@@ -18,6 +19,7 @@ use Rattle.rules.specs.Line.{lineOf, trainAt}
 use Rattle.rules.specs.Refusal.{whole, nothingAfter}
 use Rattle.rules.specs.Admitted.{Parallel}
 use Rattle.rules.proofs.Count.{length-row, entry-row}
+use Rattle.rules.proofs.Loops.{row-agree}
 
 -- ---- numbers
 
@@ -29,6 +31,17 @@ word-is file place n l h = omega arith
 pub word-most : (file : List ℕ) → AreBytes file → (place : ℕ) → word file place < 65536
 unfolding word
 word-most file b place = omega (arith, b place, b (place + 1))
+
+-- a number in a part of the file
+pub word-drop : (file : List ℕ) (at place : ℕ) → word (drop at file) place ≡ word file (at + place)
+unfolding word
+word-drop file at place =
+    ap₂ (λ low high. low + 256 * high) (getD-drop at file place 0)
+    (getD-drop at file (place + 1) 0 ∙ ap (entry file) (omega arith))
+
+pub words-drop : (file : List ℕ) (at place n : ℕ) → words (drop at file) place n ≡ words file (at + place) n
+unfolding words
+words-drop file at place n = row-agree _ _ n (λ i h. word-drop file at (place + 2 * i) ∙ ap (word file) (omega arith))
 
 -- ---- the arrays
 
@@ -49,6 +62,31 @@ parallel file at =
       bands = length-words file _ (bandCount file at) ∙ sym (length-words file _ (bandCount file at));
       stops = length-words file _ (stopCount file at) ∙ sym (length-words file _ (stopCount file at));
     }
+
+-- the part of the file from a place on, as `&file[at..]` has it
+abbrev pub partFrom : List ℕ → ℕ → List ℕ
+partFrom file at = take (length file - at) (drop at file)
+
+pub part-is : (file : List ℕ) (at : ℕ) → partFrom file at ≡ drop at file
+part-is file at = take-all (length file - at) (drop at file) (rw length-drop (omega arith))
+
+-- a record at the beginning of a part of the file
+module _ (file : List ℕ) (at : ℕ) where
+  pub record-drop : at + recordEnd (drop at file) 0 ≡ recordEnd file at
+  record-drop = omega (arith, word-drop file at 4, word-drop file at 6)
+
+  pub train-drop : trainAt (drop at file) 0 ≡ trainAt file at
+  unfolding trainAt
+  train-drop =
+      let zero : at + 0 ≡ at = add-zero at in
+      let bands : bandCount (drop at file) 0 ≡ bandCount file at = word-drop file at 4 in
+      let stops : stopCount (drop at file) 0 ≡ stopCount file at = word-drop file at 6 in
+      let rates : at + (8 + 2 * bandCount file at) ≡ at + 8 + 2 * bandCount file at = omega arith in
+      let stopPoints : at + (8 + 2 * bandCount file at + 2 * bandCount file at) ≡ at + 8 + 2 * bandCount file at + 2 * bandCount file at = omega arith in
+      let dwells :
+      at + (8 + 2 * bandCount file at + 2 * bandCount file at + 2 * stopCount file at) ≡
+      at + 8 + 2 * bandCount file at + 2 * bandCount file at + 2 * stopCount file at = omega arith in
+      rw (words-drop, words-drop, words-drop, words-drop, bands, stops, word-drop file at 0, word-drop file at 2, zero, rates, stopPoints, dwells)
 
 -- ---- the records, one after the other
 
@@ -80,6 +118,17 @@ module _ (file : List ℕ) (k at : ℕ) (e : at ≡ recordAt file k) where
 
   pub records-end : k ≡ trainCount file → at ≡ announcedEnd file
   records-end t = e ∙ ap (recordAt file) t
+
+  -- where the code holds the record's end in the part of the file from `at` on
+  module _ {end : ℕ} (q : end ≡ recordEnd (partFrom file at) 0) where
+    part-end : at + end ≡ recordEnd file at
+    part-end = ap (λ (n : ℕ). at + n) (q ∙ ap (λ (part : List ℕ). recordEnd part 0) (part-is file at)) ∙ record-drop file at
+
+    pub part-next : at + end ≡ recordAt file (k + 1)
+    part-next = part-end ∙ record-next
+
+    pub part-inside : k < trainCount file → at + end ≤ announcedEnd file
+    part-inside h = omega (arith, part-end, record-inside h)
 
 -- a train's record ends within the announced end
 pub record-within : (file : List ℕ) (k : ℕ) → k < trainCount file → recordEnd file (recordAt file k) ≤ announcedEnd file

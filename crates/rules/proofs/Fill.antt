@@ -1,5 +1,5 @@
 -- A buffer that a loop fills with a function's values, one store a turn, upwards or downwards. Assumes nothing.
-use Prim.Native.Nat.{ℕ, suc, _+_, _-_, _≤_, _<_}
+use Prim.Native.Nat.{ℕ, suc, _+_, _-_, _≤_, _<_, min}
 use mathlib.Core.Path.{_≡_, refl, sym, _∙_, ap}
 use mathlib.Core.List.{List, [], _++_}
 use native.Mathlib.Decide.{decLe, decLt}
@@ -8,6 +8,7 @@ use lib.ListN.{length, set, drop, length-set, length-append, length-drop, List·
 use lib.Seq.{getD-set-same, getD-set-other, getD-drop, getD-append-add, ext-getD}
 use Rattle.rules.specs.Count.{entry, row, padded}
 use Rattle.rules.proofs.Count.{length-row, entry-row}
+use Rattle.rules.proofs.Loops.{row-agree}
 
 -- s is s₀ but for the places from a up to, not including, b, where it has f's values
 pub record Filled (f : ℕ → ℕ) (a b : ℕ) (s₀ s : List ℕ) : Type 0 where
@@ -80,22 +81,27 @@ fill-done {f} {n} {s₀} {s} r h =
 -- ---- a list in n places
 
 module _ (f : ℕ → ℕ) where
-  pub padded-within : {m n : ℕ} → m ≤ n → (j : ℕ) → j < m → entry (padded n (row f m)) j ≡ f j
-  padded-within {m} {n} h j l = entry-row (entry (row f m)) n j (omega arith) ∙ entry-row f m j l
+  pub padded-within : {n m k : ℕ} → k < n → k < m → entry (padded m (row f n)) k ≡ f k
+  padded-within {n} {m} {k} h l = entry-row (entry (row f n)) m k l ∙ entry-row f n k h
 
-  pub padded-beyond : {m : ℕ} (n j : ℕ) → m ≤ j → entry (padded n (row f m)) j ≡ 0
-  padded-beyond {m} n j h = go (decLt j n)
+  pub padded-beyond : {n : ℕ} (m k : ℕ) → n ≤ k → entry (padded m (row f n)) k ≡ 0
+  padded-beyond {n} m k h = go (decLt k m)
     where
-      go : Dec (j < n) → entry (padded n (row f m)) j ≡ 0
-      go (yes l) = entry-row (entry (row f m)) n j l ∙ List·getD-eq-default (row f m) 0 (rw length-row h)
-      go (no l) = List·getD-eq-default (padded n (row f m)) 0 (rw length-row (omega arith))
+      go : Dec (k < m) → entry (padded m (row f n)) k ≡ 0
+      go (yes l) = entry-row (entry (row f n)) m k l ∙ List·getD-eq-default (row f n) 0 (rw length-row h)
+      go (no l) = List·getD-eq-default (padded m (row f n)) 0 (rw length-row (omega arith))
 
--- zeros whose first m places are filled with the values
+  -- the entries in use
+  pub row-padded : {n m : ℕ} → n ≤ m → row (entry (padded m (row f n))) n ≡ row f n
+  row-padded {n} {m} h = row-agree _ _ n (λ k l. padded-within l (omega arith))
+
+-- zeros of which as many places are filled as there are values and room
 pub fill-padded :
-    {f : ℕ → ℕ} {m n : ℕ} {s₀ s : List ℕ} → Filled f 0 m s₀ s → length s₀ ≡ n → ((k : ℕ) → k < n → entry s₀ k ≡ 0) → m ≤ n → s ≡ padded n (row f m)
-fill-padded {f} {m} {n} {s₀} {s} r long zeros h =
-    ext-getD 0 s (padded n (row f m)) (r .long ∙ long ∙ sym (length-row _ n)) (λ k g. at k (omega (arith, r .long)) (decLt k m))
+    (n m : ℕ) {f : ℕ → ℕ} {i : ℕ} {s₀ s : List ℕ} → Filled f 0 i s₀ s → i ≡ min n m → length s₀ ≡ m → ((k : ℕ) → k < m → entry s₀ k ≡ 0) →
+    s ≡ padded m (row f n)
+fill-padded n m {f} {i} {s₀} {s} r e long zeros =
+    ext-getD 0 s (padded m (row f n)) (r .long ∙ long ∙ sym (length-row _ m)) (λ k g. at k (omega (arith, r .long)) (decLt k i))
   where
-    at : (k : ℕ) → k < n → Dec (k < m) → entry s k ≡ entry (padded n (row f m)) k
-    at k g (yes l) = r .inside k (omega arith) l ∙ sym (padded-within f h k l)
-    at k g (no l) = r .over k (omega arith) ∙ zeros k g ∙ sym (padded-beyond f n k (omega arith))
+    at : (k : ℕ) → k < m → Dec (k < i) → entry s k ≡ entry (padded m (row f n)) k
+    at k g (yes l) = r .inside k (omega arith) l ∙ sym (padded-within f (omega arith) g)
+    at k g (no l) = r .over k (omega arith) ∙ zeros k g ∙ sym (padded-beyond f m k (omega arith))

@@ -1,0 +1,83 @@
+// The line and a train decoded from bytes.
+use crate::places::BAND_COUNT;
+use crate::places::BLOCK_COUNT;
+use crate::places::CLASS_NUMBER;
+use crate::places::LENGTH_NUMBER;
+use crate::places::LIMIT_COUNT;
+use crate::places::POINT_COUNT;
+use crate::places::RELEASE_TIME;
+use crate::places::SET_UP_TIME;
+use crate::places::STEP_LENGTH;
+use crate::places::STOP_COUNT;
+use crate::places::line_places;
+use crate::places::record_places;
+use crate::words::word_at;
+use crate::words::words_at;
+use values::Line;
+use values::Train;
+use values::TrainClass;
+use widths::size;
+ghost use mathlib.Core.Path.{_≡_};
+ghost use Rattle.reading.specs.Decoded.{decodedFile, decodedRecord};
+
+// A file's line, T, and the place of its first train record.
+pub struct DecodedFile {
+    pub line: Line,
+    pub trains: usize,
+    pub at: usize,
+}
+
+// The train of a record, and how many bytes the record has.
+pub struct DecodedRecord {
+    pub train: Train,
+    pub bytes: usize,
+}
+
+// Of each array the first 64 entries are taken.
+pub fn decode_file(file: &[u8]) -> DecodedFile
+    ensures { λ r. ⌜ r ≡ decodedFile (now (file .entry)) ⌝ }
+{
+    let limits = word_at(file, LIMIT_COUNT);
+    let blocks = word_at(file, BLOCK_COUNT);
+    let places = line_places(file);
+    let line = Line {
+        points: word_at(file, POINT_COUNT),
+        step: word_at(file, STEP_LENGTH),
+        set_up: word_at(file, SET_UP_TIME),
+        release: word_at(file, RELEASE_TIME),
+        limit_count: size(limits),
+        limit_points: words_at(file, places.limit_points, limits),
+        limits: words_at(file, places.limits, limits),
+        block_count: size(blocks),
+        block_starts: words_at(file, places.block_starts, blocks),
+        block_ends: words_at(file, places.block_ends, blocks),
+    };
+    DecodedFile {
+        line,
+        trains: size(word_at(file, places.train_count)),
+        at: places.trains,
+    }
+}
+
+// The bytes begin with the record. Of each array the first 64 entries are taken.
+pub fn decode_record(bytes: &[u8]) -> DecodedRecord
+    ensures { λ r. ⌜ r ≡ decodedRecord (now (bytes .entry)) ⌝ }
+{
+    let bands = word_at(bytes, BAND_COUNT);
+    let stops = word_at(bytes, STOP_COUNT);
+    let places = record_places(bytes);
+    let train = Train {
+        class: TrainClass::from_number(word_at(bytes, CLASS_NUMBER)),
+        length: word_at(bytes, LENGTH_NUMBER),
+        band_count: size(bands),
+        tops: words_at(bytes, places.tops, bands),
+        rates: words_at(bytes, places.rates, bands),
+        stop_count: size(stops),
+        stops: words_at(bytes, places.stops, stops),
+        dwells: words_at(bytes, places.dwells, stops),
+    };
+    DecodedRecord {
+        train,
+        bytes: places.end,
+    }
+}

@@ -1,0 +1,47 @@
+// The 16-bit numbers in bytes.
+use widths::size;
+ghost use mathlib.Core.Path.{_≡_};
+ghost use Prim.Native.Nat.{_<_, min};
+ghost use Rattle.rules.specs.Count.{padded};
+ghost use Rattle.rules.specs.File.{word, words};
+
+fn wide(byte: u8) -> u16
+    ensures { λ r. ⌜ (r ≡ byte) × (r < 256) ⌝ }
+{
+    byte as u16
+}
+
+fn lesser(a: usize, b: usize) -> usize
+    ensures { λ r. ⌜ r ≡ min a b ⌝ }
+{
+    if a < b { a } else { b }
+}
+
+// The unsigned 16-bit number at a place, low byte first.
+pub(crate) fn word_at(bytes: &[u8], at: usize) -> u16
+    ensures { λ r. ⌜ (r ≡ word (now (bytes .entry)) at) × (r < 65536) ⌝ }
+{
+    if bytes.len() <= at {
+        return 0;
+    }
+    let low = wide(bytes[at]);
+    if bytes.len() <= at + 1 {
+        return low;
+    }
+    low + 256 * wide(bytes[at + 1])
+}
+
+// The first n of the numbers that stand from a place on, but no more than 64; the places behind them are 0.
+pub(crate) fn words_at(bytes: &[u8], at: usize, n: u16) -> [u16; 64]
+    requires { ⌜ at < 1000000 ⌝ }
+    ensures { λ r. ⌜ r ≡ padded 64 (words (now (bytes .entry)) at n) ⌝ }
+{
+    let count = lesser(size(n), 64);
+    let mut numbers = [0u16; 64];
+    let mut i = 0;
+    while i < count {
+        numbers[i] = word_at(bytes, at + 2 * i);
+        i += 1;
+    }
+    numbers
+}
