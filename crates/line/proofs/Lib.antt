@@ -1,6 +1,3 @@
-pub mod Rules
-pub mod Reading
-pub mod Walk
-pub mod Checks
+pub mod Lowest
+pub mod Judging
 pub mod Opening
-pub mod Callers

@@ -1,4 +1,2 @@
-pub mod Values
-pub mod Sized
-pub mod Decoded
-pub mod Opened
+pub mod Judged
+pub mod Answers

@@ -1,64 +1,66 @@
-// The line file: checking it, handing out a train's record, and decoding the line and its trains.
-mod check;
-mod class;
-mod decode;
-mod decoded;
-mod line_rules;
-mod motion;
-mod numbers;
+// The line file: checking it, handing out a train's record, and opening it for callers that go on to use its line and trains.
+mod find;
+mod judge;
 mod opened;
-mod pair;
-mod places;
-mod train_rules;
-mod trains;
 
-pub use class::TrainClass;
-pub use decoded::Line;
-pub use decoded::Train;
-pub use motion::braking_loss;
-pub use motion::train_cells;
-use numbers::word_at;
+use find::find_train;
 pub use opened::FileAnswer;
 pub use opened::TrainAnswer;
-pub use opened::TrainHere;
 pub use opened::open_file;
 pub use opened::open_train;
-pub use opened::train_at;
-pub use pair::pair_refusal;
-use places::record_at;
-use places::record_size;
-use places::train_count_at;
-use widths::size;
+use reading::record_size;
 ghost use mathlib.Core.Path.{_≡_};
-ghost use Rattle.rules.specs.Calls.{fileRefusal, trainRefusal, trainRecord};
+ghost use Rattle.rules.specs.Calls.{fileRefusal, trainRefusal, trainRecord, recordPlace};
+ghost use Rattle.line.specs.Answers.{asRecordPlace};
 
-// The number of refusal of a file, rules 1 to 9, or 0.
-pub fn check_file(file: &[u8]) -> u8
-    ensures { λ r. ⌜ r ≡ fileRefusal (now (file .entry)) ⌝ }
-{
-    check::file_refusal(file)
+// The number 0, the first byte of a record and how many bytes it has; or the number of refusal, 0 and 0.
+#[repr(C)]
+pub struct RecordPlace {
+    pub number: u64,
+    pub start: u64,
+    pub bytes: u64,
 }
 
-// The number of refusal of a file and a train number, rules 1 to 10, or 0.
-pub fn check_train(file: &[u8], k: u64) -> u8
+// The number of refusal of a file by rules 1 to 9, or 0.
+pub fn check_file(file: &[u8]) -> u64
+    ensures { λ r. ⌜ r ≡ fileRefusal (now (file .entry)) ⌝ }
+{
+    open_file(file).number
+}
+
+// The number of refusal of a file and a train number by rules 1 to 10, or 0.
+pub fn check_train(file: &[u8], k: u64) -> u64
     ensures { λ r. ⌜ r ≡ trainRefusal (now (file .entry)) k ⌝ }
 {
-    let number = check_file(file);
-    if number != 0 {
-        return number;
+    find_train(file, k).number
+}
+
+// Where the record of train k stands in the file.
+pub fn record_place(file: &[u8], k: u64) -> RecordPlace
+    ensures { λ r. ⌜ asRecordPlace r ≡ recordPlace (now (file .entry)) k ⌝ }
+{
+    let found = find_train(file, k);
+    if found.number != 0 {
+        return RecordPlace {
+            number: found.number,
+            start: 0,
+            bytes: 0,
+        };
     }
-    let trains = size(word_at(file, train_count_at(file)));
-    if k < trains as u64 { 0 } else { 10 }
+    let at = found.at;
+    RecordPlace {
+        number: 0,
+        start: at as u64,
+        bytes: record_size(&file[at..]) as u64,
+    }
 }
 
 // The record of train k as a part of the file's own bytes, or the empty part on a refusal.
 pub fn train_record(file: &[u8], k: u64) -> &[u8]
     ensures { λ r. ⌜ now r ≡ trainRecord (now (file .entry)) k ⌝ }
 {
-    if check_train(file, k) != 0 {
-        return &file[..0];
-    }
-    let at = record_at(file, k as usize);
-    let end = at + record_size(file, at);
-    &file[at..end]
+    let place = record_place(file, k);
+    let start = place.start as usize;
+    let end = start + place.bytes as usize;
+    &file[start..end]
 }

@@ -1,19 +1,17 @@
--- A file and a record are decoded, if each of their numbers and arrays is; and they stand for what the rules read. Assumes nothing.
+-- A line and a train are decoded, if each of their numbers and arrays is; and they stand for what the rules read. Assumes nothing.
 use Prim.Native.Nat.{ℕ, _≤_}
 use mathlib.Core.List.{List}
 use mathlib.Core.Path.{_≡_, ap₂, _∙_}
 use Rattle.rules.specs.Count.{row, entry}
 use Rattle.rules.specs.File.{words, pointCount, stepLength, limitCount, blockCount, setUpTime, releaseTime}
-use Rattle.rules.specs.File.{limitPointsAt, limitsAt, blockStartsAt, blockEndsAt, trainCount, trainsAt}
-use Rattle.rules.specs.File.{classNumber, lengthNumber, bandCount, stopCount, topsAt, ratesAt, stopsAt, dwellsAt, recordSize}
+use Rattle.rules.specs.File.{limitPointsAt, limitsAt, blockStartsAt, blockEndsAt}
+use Rattle.rules.specs.File.{classNumber, lengthNumber, bandCount, stopCount, topsAt, ratesAt, stopsAt, dwellsAt}
 use Rattle.rules.specs.Line.{lineOf, trainAt}
 use Rattle.rules.proofs.Fill.{row-padded}
 use Rattle.values.specs.declared.decoded.Line.{Line}
 use Rattle.values.specs.declared.decoded.Train.{Train}
 use Rattle.values.specs.Values.{asLine, asTrain}
-use Rattle.reading.specs.declared.decode.DecodedFile.{DecodedFile}
-use Rattle.reading.specs.declared.decode.DecodedRecord.{DecodedRecord}
-use Rattle.reading.specs.Decoded.{numbers, decodedLine, decodedFile, decodedTrain, decodedRecord}
+use Rattle.reading.specs.Decoded.{numbers, decodedLine, decodedTrain}
 
 module _ (bytes : List ℕ) where
   -- an array that the code read, from the place and the count that it holds

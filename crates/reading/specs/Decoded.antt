@@ -4,11 +4,10 @@ use mathlib.Core.List.{List}
 use Rattle.rules.specs.Count.{padded}
 use Rattle.rules.specs.File.{words, pointCount, stepLength, limitCount, blockCount, setUpTime, releaseTime}
 use Rattle.rules.specs.File.{limitPointsAt, limitsAt, blockStartsAt, blockEndsAt, trainCount, trainsAt}
-use Rattle.rules.specs.File.{classNumber, lengthNumber, bandCount, stopCount, topsAt, ratesAt, stopsAt, dwellsAt, recordSize}
+use Rattle.rules.specs.File.{classNumber, lengthNumber, bandCount, stopCount, topsAt, ratesAt, stopsAt, dwellsAt}
 use Rattle.values.specs.declared.decoded.Line.{Line}
 use Rattle.values.specs.declared.decoded.Train.{Train}
 use Rattle.reading.specs.declared.decode.DecodedFile.{DecodedFile}
-use Rattle.reading.specs.declared.decode.DecodedRecord.{DecodedRecord}
 
 -- n numbers from a byte place on, in the 64 places of an array
 abbrev pub numbers : List ℕ → ℕ → ℕ → List ℕ
@@ -45,6 +44,3 @@ decodedTrain bytes =
       stops = numbers bytes (stopsAt bytes 0) (stopCount bytes 0);
       dwells = numbers bytes (dwellsAt bytes 0) (stopCount bytes 0);
     }
-
-abbrev pub decodedRecord : List ℕ → DecodedRecord
-decodedRecord bytes = record { train = decodedTrain bytes; bytes = recordSize bytes 0 }

@@ -18,19 +18,15 @@ use values::Train;
 use values::TrainClass;
 use widths::size;
 ghost use mathlib.Core.Path.{_≡_};
-ghost use Rattle.reading.specs.Decoded.{decodedFile, decodedRecord};
+ghost use Prim.Native.Nat.{_<_};
+ghost use Rattle.rules.specs.File.{recordSize};
+ghost use Rattle.reading.specs.Decoded.{decodedFile, decodedTrain};
 
 // A file's line, T, and the place of its first train record.
 pub struct DecodedFile {
     pub line: Line,
     pub trains: usize,
     pub at: usize,
-}
-
-// The train of a record, and how many bytes the record has.
-pub struct DecodedRecord {
-    pub train: Train,
-    pub bytes: usize,
 }
 
 // Of each array the first 64 entries are taken.
@@ -59,14 +55,21 @@ pub fn decode_file(file: &[u8]) -> DecodedFile
     }
 }
 
-// The bytes begin with the record. Of each array the first 64 entries are taken.
-pub fn decode_record(bytes: &[u8]) -> DecodedRecord
-    ensures { λ r. ⌜ r ≡ decodedRecord (now (bytes .entry)) ⌝ }
+// The number of bytes of the record that the bytes begin with.
+pub fn record_size(bytes: &[u8]) -> usize
+    ensures { λ r. ⌜ (r ≡ recordSize (now (bytes .entry)) 0) × (r < 1000000) ⌝ }
+{
+    record_places(bytes).end
+}
+
+// The train of the record that the bytes begin with. Of each array the first 64 entries are taken.
+pub fn decode_train(bytes: &[u8]) -> Train
+    ensures { λ r. ⌜ r ≡ decodedTrain (now (bytes .entry)) ⌝ }
 {
     let bands = word_at(bytes, BAND_COUNT);
     let stops = word_at(bytes, STOP_COUNT);
     let places = record_places(bytes);
-    let train = Train {
+    Train {
         class: TrainClass::from_number(word_at(bytes, CLASS_NUMBER)),
         length: word_at(bytes, LENGTH_NUMBER),
         band_count: size(bands),
@@ -75,9 +78,5 @@ pub fn decode_record(bytes: &[u8]) -> DecodedRecord
         stop_count: size(stops),
         stops: words_at(bytes, places.stops, stops),
         dwells: words_at(bytes, places.dwells, stops),
-    };
-    DecodedRecord {
-        train,
-        bytes: places.end,
     }
 }

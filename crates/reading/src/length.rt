@@ -1,6 +1,6 @@
 // Whether a file has the length that its sizes announce.
+use crate::decode::record_size;
 use crate::places::line_places;
-use crate::places::record_places;
 use crate::words::word_at;
 use widths::size;
 ghost use mathlib.Core.Path.{_≡_};
@@ -18,7 +18,7 @@ pub fn length_refusal(file: &[u8]) -> u64
     let mut at = places.trains;
     let mut k = 0;
     while k < trains {
-        let end = record_places(&file[at..]).end;
+        let end = record_size(&file[at..]);
         if file.len() - at < end {
             return 1;
         }

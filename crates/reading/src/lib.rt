@@ -5,7 +5,7 @@ mod places;
 mod words;
 
 pub use decode::DecodedFile;
-pub use decode::DecodedRecord;
 pub use decode::decode_file;
-pub use decode::decode_record;
+pub use decode::decode_train;
+pub use decode::record_size;
 pub use length::length_refusal;

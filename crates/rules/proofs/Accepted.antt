@@ -21,7 +21,7 @@ use Rattle.rules.proofs.File.{parallel}
 use Rattle.rules.proofs.Rules.{rule-3-line, rule-3-train, rule-4, rule-5, rule-6, rule-7, rule-8, rule-9}
 use Rattle.rules.proofs.Refusal.{refusal-none, refusal-cons, Positive, head-broken, head-kept, head-accepted, append-refused}
 use Rattle.rules.proofs.Refusal.{append-kept, append-accepted, AtMost, refusal-most, Rising, lowest-broken, RisingTests}
-use Rattle.rules.proofs.Refusal.{decided-both, decided-true, lower-none, lower-zero}
+use Rattle.rules.proofs.Refusal.{Beyond, beyond-decided, decided-both, decided-true, lower-none, lower-zero}
 
 -- ---- the rules of a line, of a train, and of all trains
 
@@ -50,6 +50,13 @@ train-rules l t = (
 
 tests-rise : RisingTests 0 trainTests
 tests-rise = omega arith
+
+-- no number of these is 3
+pub one-beyond : (l : Line) (t : Train) → Beyond 3 (refusal (oneTrainRules l t))
+one-beyond l t = beyond-decided 3 trainTests (omega arith) (λ r. r .kept l t)
+
+pub every-beyond : (l : Line) (train : ℕ → Train) (n : ℕ) → Beyond 3 (refusal (everyTrainRules l train n))
+every-beyond l train n = beyond-decided 3 trainTests (omega arith) (λ r. every n (λ k. r .kept l (train k)))
 
 module _ (l : Line) (train : ℕ → Train) where
   pub trains-none : refusal (everyTrainRules l train 0) ≡ 0

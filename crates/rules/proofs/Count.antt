@@ -34,6 +34,16 @@ pub and-both : {a b : Bool} → a ≡ true → b ≡ true → (a and b) ≡ true
 unfolding _and_
 and-both e f = rw (e, f)
 
+pub and-false : (b : Bool) → (b and false) ≡ false
+unfolding _and_
+and-false true = refl
+and-false false = refl
+
+-- both fail where the first passes: the second fails
+pub and-rest : {a b : Bool} → a ≡ true → (a and b) ≡ false → b ≡ false
+unfolding _and_
+and-rest {a} {b} e f = rw e at f
+
 pub every-at : (test : ℕ → Bool) (n : ℕ) → every n test ≡ true → (i : ℕ) → i < n → test i ≡ true
 unfolding every
 every-at test zero e i l = absurd (omega arith)
@@ -44,6 +54,16 @@ pub every-all : (test : ℕ → Bool) (n : ℕ) → ((i : ℕ) → i < n → tes
 unfolding every
 every-all test zero h = refl
 every-all test (suc n) h = and-both (every-all test n (λ i l. h i (omega arith))) (h n (omega arith))
+
+-- a test that fails somewhere
+pub every-some : (test : ℕ → Bool) (n : ℕ) → every n test ≡ false → (i : ℕ) × (i < n) × (test i ≡ false)
+unfolding every
+every-some test zero e = absurd (false≢true (sym e))
+every-some test (suc n) e = go (every n test) refl (every-some test n)
+  where
+    go : (b : Bool) → every n test ≡ b → (every n test ≡ false → (i : ℕ) × (i < n) × (test i ≡ false)) → (i : ℕ) × (i < suc n) × (test i ≡ false)
+    go true q r = (n, omega arith, and-rest q e)
+    go false q r = let (i, l, f) = r q in (i, omega arith, f)
 
 pub every-agree : (f g : ℕ → Bool) (n : ℕ) → ((i : ℕ) → i < n → f i ≡ g i) → every n f ≡ every n g
 unfolding every

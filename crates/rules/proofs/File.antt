@@ -13,7 +13,7 @@ use lib.ListN.{length, take, drop, length-drop}
 use lib.Seq.{getD-drop, take-all}
 use borrow.Author.Tests.{le-leb, lt-leb, leb-true, leb-false}
 use Rattle.rules.specs.Count.{entry}
-use Rattle.rules.specs.File.{AreBytes, word, words, sizesEnd, limitCount, blockCount, trainCount, trainsAt, bandCount, stopCount, recordEnd, recordAt, announcedEnd}
+use Rattle.rules.specs.File.{AreBytes, word, words, sizesEnd, limitCount, blockCount, trainCount, trainsAt, bandCount, stopCount, recordSize, recordEnd, recordAt, announcedEnd}
 use Rattle.rules.specs.Reading.{Reading, endsEarly, readTo, have, readTrains, readFile}
 use Rattle.rules.specs.Line.{lineOf, trainAt}
 use Rattle.rules.specs.Refusal.{whole, nothingAfter}
@@ -72,7 +72,7 @@ part-is file at = take-all (length file - at) (drop at file) (rw length-drop (om
 
 -- a record at the beginning of a part of the file
 module _ (file : List ℕ) (at : ℕ) where
-  pub record-drop : at + recordEnd (drop at file) 0 ≡ recordEnd file at
+  pub record-drop : at + recordSize (drop at file) 0 ≡ recordEnd file at
   record-drop = omega (arith, word-drop file at 4, word-drop file at 6)
 
   pub train-drop : trainAt (drop at file) 0 ≡ trainAt file at
@@ -119,15 +119,15 @@ module _ (file : List ℕ) (k at : ℕ) (e : at ≡ recordAt file k) where
   pub records-end : k ≡ trainCount file → at ≡ announcedEnd file
   records-end t = e ∙ ap (recordAt file) t
 
-  -- where the code holds the record's end in the part of the file from `at` on
-  module _ {end : ℕ} (q : end ≡ recordEnd (partFrom file at) 0) where
-    part-end : at + end ≡ recordEnd file at
-    part-end = ap (λ (n : ℕ). at + n) (q ∙ ap (λ (part : List ℕ). recordEnd part 0) (part-is file at)) ∙ record-drop file at
+  -- where the code holds the record's size, from the part of the file from `at` on
+  module _ {size : ℕ} (q : size ≡ recordSize (partFrom file at) 0) where
+    pub part-end : at + size ≡ recordEnd file at
+    part-end = ap (λ (n : ℕ). at + n) (q ∙ ap (λ (part : List ℕ). recordSize part 0) (part-is file at)) ∙ record-drop file at
 
-    pub part-next : at + end ≡ recordAt file (k + 1)
+    pub part-next : at + size ≡ recordAt file (k + 1)
     part-next = part-end ∙ record-next
 
-    pub part-inside : k < trainCount file → at + end ≤ announcedEnd file
+    pub part-inside : k < trainCount file → at + size ≤ announcedEnd file
     part-inside h = omega (arith, part-end, record-inside h)
 
 -- a train's record ends within the announced end

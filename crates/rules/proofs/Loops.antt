@@ -11,12 +11,7 @@ use lib.Dec.{leb}
 use lib.ListN.{length}
 use borrow.Author.Tests.{le-leb, lt-leb}
 use Rattle.rules.specs.Count.{_and_, entry, rowFrom, row, greatestBelow, every, within, allWithin, belowBy, risesBy}
-use Rattle.rules.proofs.Count.{every-agree, length-row, entry-row}
-
-and-false : (b : Bool) → (b and false) ≡ false
-unfolding _and_
-and-false true = refl
-and-false false = refl
+use Rattle.rules.proofs.Count.{and-false, every-agree, length-row, entry-row}
 
 -- two tests that the code holds as x and y
 pub and-of : {r x y a b : Bool} → r ≡ (x and y) → x ≡ a → y ≡ b → r ≡ (a and b)

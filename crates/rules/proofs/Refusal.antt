@@ -182,7 +182,7 @@ refusal-most m (r ∷ rs) h = rw (refusal-cons (r .number) (r .kept) rs) (go (r 
 -- ---- rules that are kept by two things if each keeps them
 
 -- no rule is broken, or none up to number m
-abbrev Beyond : ℕ → ℕ → Type 0
+abbrev pub Beyond : ℕ → ℕ → Type 0
 Beyond m x = (x ≡ 0) ⊎ (m < x)
 
 beyond-cons : (m n : ℕ) (b : Bool) (x : ℕ) → m < n → Beyond n x → Beyond m (cond b x n)
@@ -223,7 +223,7 @@ decided-none : (f : TrainRule → Bool) → refusal (decided f []) ≡ 0
 unfolding decided
 decided-none f = refusal-none
 
-beyond-decided : (m : ℕ) (rs : List TrainRule) → RisingTests m rs → (f : TrainRule → Bool) → Beyond m (refusal (decided f rs))
+pub beyond-decided : (m : ℕ) (rs : List TrainRule) → RisingTests m rs → (f : TrainRule → Bool) → Beyond m (refusal (decided f rs))
 beyond-decided m [] s f = inl (decided-none f)
 beyond-decided m (r ∷ rs) s f = rw decided-cons (beyond-cons m (r .number) (f r) _ (s .0) (beyond-decided (r .number) rs (s .1) f))
 

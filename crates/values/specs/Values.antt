@@ -1,4 +1,7 @@
 -- What the decoded line and train stand for in the rules: the same numbers, and of each array the entries in use.
+use mathlib.Core.List.{List}
+use Prim.Native.Nat.{ℕ}
+use lib.ListN.{replicate}
 use Rattle.rules.specs.Count.{entry, row}
 use Rattle.rules.specs.Line as rules
 use Rattle.values.specs.declared.decoded.Line.{Line}
@@ -26,4 +29,37 @@ asTrain t =
       rates = row (entry (t .rates)) (t .«band_count»);
       stops = row (entry (t .stops)) (t .«stop_count»);
       dwells = row (entry (t .dwells)) (t .«stop_count»);
+    }
+
+-- ---- where there is no line or train
+
+abbrev pub zeros : List ℕ
+zeros = replicate 64 0
+
+abbrev pub noLine : Line
+noLine =
+    record {
+      points = 0;
+      step = 0;
+      «set_up» = 0;
+      release = 0;
+      «limit_count» = 0;
+      «limit_points» = zeros;
+      limits = zeros;
+      «block_count» = 0;
+      «block_starts» = zeros;
+      «block_ends» = zeros;
+    }
+
+abbrev pub noTrain : Train
+noTrain =
+    record {
+      class = record { 0 = 0 };
+      length = 0;
+      «band_count» = 0;
+      tops = zeros;
+      rates = zeros;
+      «stop_count» = 0;
+      stops = zeros;
+      dwells = zeros;
     }

@@ -38,17 +38,17 @@ loop-holds c =
     let count = c .size .ensures .0 ∙ c .before .word-at .ensures .0 ∙ ap (word f) (p .line-places .ensures .trainCount) in
     (omega arith, count, p .line-places .ensures .trains ∙ sym (record-first f), omega arith)
 
-sub-record-places : tie.Need-sub-record-places Inv-loop μ-loop
-sub-record-places c = search needs
+sub-record-size : tie.Need-sub-record-size Inv-loop μ-loop
+sub-record-size c = search needs
 
-part-record-places-start : tie.Need-part-record-places-start Inv-loop μ-loop
-part-record-places-start c = search needs
+part-record-size-start : tie.Need-part-record-size-start Inv-loop μ-loop
+part-record-size-start c = search needs
 
-part-record-places-end : tie.Need-part-record-places-end Inv-loop μ-loop
-part-record-places-end c = search needs
+part-record-size-end : tie.Need-part-record-size-end Inv-loop μ-loop
+part-record-size-end c = search needs
 
-record-places-requires : tie.Need-record-places-requires Inv-loop μ-loop
-record-places-requires c κs = search needs
+record-size-requires : tie.Need-record-size-requires Inv-loop μ-loop
+record-size-requires c κs = search needs
 
 sub-if2 : tie.Need-sub-if2 Inv-loop μ-loop
 sub-if2 c = search needs
@@ -57,7 +57,7 @@ returns-2 : tie.Need-returns-2 Inv-loop μ-loop
 returns-2 c =
     let s = c .before .before .before in
     let o = s .before .loop in
-    let inside = part-inside _ _ _ (o .inv .2) (c .before .record-places .ensures .end) (omega (arith, s .loop-test .taken)) in
+    let inside = part-inside _ _ _ (o .inv .2) (c .before .record-size .ensures .0) (omega (arith, s .loop-test .taken)) in
     sym (ends-early _ (omega (arith, inside)))
 
 add-at : tie.Need-add-at Inv-loop μ-loop
@@ -72,7 +72,7 @@ loop-less c = search needs
 loop-again : tie.Need-loop-again Inv-loop μ-loop
 loop-again c =
     let o = c .before .before .before .before .loop in
-    (omega arith, o .inv .1, part-next _ _ _ (o .inv .2) (c .before .record-places .ensures .end), omega (arith, c .if2 .left))
+    (omega arith, o .inv .1, part-next _ _ _ (o .inv .2) (c .before .record-size .ensures .0), omega (arith, c .if2 .left))
 
 returns-3 : tie.Need-returns-3 Inv-loop μ-loop
 returns-3 c =
@@ -95,10 +95,10 @@ length-refusal-spec =
     word-at-requires
     size-requires
     loop-holds
-    sub-record-places
-    part-record-places-start
-    part-record-places-end
-    record-places-requires
+    sub-record-size
+    part-record-size-start
+    part-record-size-end
+    record-size-requires
     sub-if2
     returns-2
     add-at
