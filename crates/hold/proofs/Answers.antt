@@ -11,7 +11,7 @@ use borrow.Author.Tests.{eqb-true, eqb-false, eq-eqb, ne-eqb, leb-true}
 use Rattle.rules.specs.Count.{entry, row}
 use Rattle.rules.specs.Line.{Line, Train}
 use Rattle.rules.specs.Hold.{Hold, emptyHold, holdOf}
-use Rattle.rules.specs.Refusal.{refusal, pairRules, buffersLong}
+use Rattle.rules.specs.Refusal.{refusal, rulesOn, buffersLong}
 use Rattle.rules.specs.Run.{runRow, runAt}
 use Rattle.rules.specs.Time.{arrival, arrivals, runTimes}
 use Rattle.rules.specs.Admitted.{Parallel, Admitted}
@@ -22,32 +22,32 @@ use Rattle.rules.proofs.Calls.{written-is}
 use Rattle.rules.proofs.Written.{written-long}
 use Rattle.rules.proofs.Pairs.{pair-admitted}
 use Rattle.line.specs.Opened.{OpenPair, openedTrain}
-use Rattle.run.specs.Calls.{pairRefusal, pairSpeeds, pairTimes}
+use Rattle.run.specs.Calls.{runRefusalOn, speedsOn, timesOn}
 use Rattle.run.proofs.Answers.{pair-refused, pair-by-buffers, as-run, line-is, train-is}
-use Rattle.hold.specs.Calls.{pairHeld}
+use Rattle.hold.specs.Calls.{heldOn}
 
 long-buffers : (l : Line) (ns nt : ℕ) → buffersLong l ns nt ≡ true → (l .points ≤ ns) × (l .points ≤ nt)
 unfolding buffersLong
 long-buffers l ns nt e = (leb-true _ _ (and-left _ _ e), leb-true _ _ (and-right _ _ e))
 
 module _ (l : Line) (t : Train) (ns nt : ℕ) where
-  pub held-refused : {r : ℕ} {h : Hold} → r ≡ pairRefusal l t ns nt → (r ≡ 0 → ⊥) → h ≡ emptyHold → record { number = r; hold = h } ≡ pairHeld l t ns nt
-  unfolding pairHeld
-  held-refused e n q = rw (ne-eqb (pairRefusal l t ns nt) 0 (λ z. n (e ∙ z)), e, q)
+  pub held-refused : {r : ℕ} {h : Hold} → r ≡ runRefusalOn l t ns nt → (r ≡ 0 → ⊥) → h ≡ emptyHold → record { number = r; hold = h } ≡ heldOn l t ns nt
+  unfolding heldOn
+  held-refused e n q = rw (ne-eqb (runRefusalOn l t ns nt) 0 (λ z. n (e ∙ z)), e, q)
 
-  pub held-accepted : {r : ℕ} {h : Hold} → r ≡ pairRefusal l t ns nt → r ≡ 0 → h ≡ holdOf l t → record { number = r; hold = h } ≡ pairHeld l t ns nt
-  unfolding pairHeld
-  held-accepted {r} e z q = rw (eq-eqb (pairRefusal l t ns nt) 0 (sym e ∙ z), z, q)
+  pub held-accepted : {r : ℕ} {h : Hold} → r ≡ runRefusalOn l t ns nt → r ≡ 0 → h ≡ holdOf l t → record { number = r; hold = h } ≡ heldOn l t ns nt
+  unfolding heldOn
+  held-accepted {r} e z q = rw (eq-eqb (runRefusalOn l t ns nt) 0 (sym e ∙ z), z, q)
 
   -- an accepted pair keeps rules 3 to 9, and both buffers are long enough
-  pub pair-accepted : pairRefusal l t ns nt ≡ 0 → (refusal (pairRules l t) ≡ 0) × (l .points ≤ ns) × (l .points ≤ nt)
-  pair-accepted z = go (eqb (refusal (pairRules l t)) 0) refl
+  pub pair-accepted : runRefusalOn l t ns nt ≡ 0 → (refusal (rulesOn l t) ≡ 0) × (l .points ≤ ns) × (l .points ≤ nt)
+  pair-accepted z = go (eqb (refusal (rulesOn l t)) 0) refl
     where
-      both : refusal (pairRules l t) ≡ 0 → (b : Bool) → buffersLong l ns nt ≡ b → buffersLong l ns nt ≡ true
+      both : refusal (rulesOn l t) ≡ 0 → (b : Bool) → buffersLong l ns nt ≡ b → buffersLong l ns nt ≡ true
       both k true e = e
-      both k false e = let y : pairRefusal l t ns nt ≡ 11 = rw e at (pair-by-buffers l t ns nt k) in absurd (omega arith)
+      both k false e = let y : runRefusalOn l t ns nt ≡ 11 = rw e at (pair-by-buffers l t ns nt k) in absurd (omega arith)
 
-      go : (b : Bool) → eqb (refusal (pairRules l t)) 0 ≡ b → (refusal (pairRules l t) ≡ 0) × (l .points ≤ ns) × (l .points ≤ nt)
+      go : (b : Bool) → eqb (refusal (rulesOn l t)) 0 ≡ b → (refusal (rulesOn l t) ≡ 0) × (l .points ≤ ns) × (l .points ≤ nt)
       go true e =
           let k = eqb-true _ 0 e in
           let long = long-buffers l ns nt (both k (buffersLong l ns nt) refl) in
@@ -65,15 +65,15 @@ module _ (f : ℕ → ℕ) (n : ℕ) (s : List ℕ) {s′ : List ℕ} (e : s′ 
 -- what an accepted run gives the hold
 module _ (l : Line) (t : Train) (same : Parallel l t) (speeds times : List ℕ) where
   pub run-done :
-      {r : ℕ} {speeds′ times′ : List ℕ} → r ≡ pairRefusal l t (length speeds) (length times) → r ≡ 0 → speeds′ ≡ pairSpeeds l t speeds times → times′ ≡ pairTimes l t speeds times →
+      {r : ℕ} {speeds′ times′ : List ℕ} → r ≡ runRefusalOn l t (length speeds) (length times) → r ≡ 0 → speeds′ ≡ speedsOn l t speeds times → times′ ≡ timesOn l t speeds times →
       Admitted l t × ((l .points ≤ length speeds′) × (l .points ≤ length times′)) × ((k : ℕ) → k < l .points → entry speeds′ k ≡ entry (runRow l t) k) ×
       ((k : ℕ) → k < l .points → entry times′ k ≡ entry (runTimes l t) k)
-  unfolding pairSpeeds pairTimes runRow arrivals
+  unfolding speedsOn timesOn runRow arrivals
   run-done {r} {speeds′} {times′} e z p q =
-      let n : pairRefusal l t (length speeds) (length times) ≡ 0 = sym e ∙ z in
+      let n : runRefusalOn l t (length speeds) (length times) ≡ 0 = sym e ∙ z in
       let ok = pair-accepted l t (length speeds) (length times) n in
-      let s : speeds′ ≡ written speeds 0 (row (runAt l t) (l .points)) = rw (eq-eqb (pairRefusal l t (length speeds) (length times)) 0 n) at p in
-      let m : times′ ≡ written times 0 (row (arrival l t (row (runAt l t) (l .points))) (l .points)) = rw (eq-eqb (pairRefusal l t (length speeds) (length times)) 0 n) at q in
+      let s : speeds′ ≡ written speeds 0 (row (runAt l t) (l .points)) = rw (eq-eqb (runRefusalOn l t (length speeds) (length times)) 0 n) at p in
+      let m : times′ ≡ written times 0 (row (arrival l t (row (runAt l t) (l .points))) (l .points)) = rw (eq-eqb (runRefusalOn l t (length speeds) (length times)) 0 n) at q in
       (pair-admitted l t (ok .0) same, (rw (written-long speeds (row (runAt l t) (l .points)) s (rw length-row (ok .1))) (ok .1), rw (written-long times (row (arrival l t (row (runAt l t) (l .points))) (l .points)) m (rw length-row (ok .2))) (ok .2)), written-entries _ _ speeds s (ok .1), written-entries _ _ times m (ok .2))
 
 -- ---- of a file
@@ -83,8 +83,8 @@ module _ (file : List ℕ) (k : ℕ) (speeds times : List ℕ) where
   unfolding held
   file-refused e n q = rw (ne-eqb (runRefusal file k (length speeds) (length times)) 0 (λ z. n (e ∙ z)), e, q)
 
-  pub file-held : {o : OpenPair} (e : o ≡ openedTrain file k) (h : o .number ≡ 0) {x : Holding} → x ≡ pairHeld (o .line) (o .train) (length speeds) (length times) → x ≡ held file k (length speeds) (length times)
-  unfolding pairHeld held
+  pub file-held : {o : OpenPair} (e : o ≡ openedTrain file k) (h : o .number ≡ 0) {x : Holding} → x ≡ heldOn (o .line) (o .train) (length speeds) (length times) → x ≡ held file k (length speeds) (length times)
+  unfolding heldOn held
   file-held {o} e h p =
-      let n : pairRefusal (o .line) (o .train) (length speeds) (length times) ≡ runRefusal file k (length speeds) (length times) = as-run file k e h speeds times refl refl refl .0 in
+      let n : runRefusalOn (o .line) (o .train) (length speeds) (length times) ≡ runRefusal file k (length speeds) (length times) = as-run file k e h speeds times refl refl refl .0 in
       rw (n, line-is file k e h, train-is file k e h) at p

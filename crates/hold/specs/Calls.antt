@@ -5,7 +5,7 @@ use lib.Dec.{eqb}
 use Rattle.rules.specs.Line.{Line, Train}
 use Rattle.rules.specs.Hold.{emptyHold, holdOf}
 use Rattle.rules.specs.Calls.{Holding}
-use Rattle.run.specs.Calls.{pairRefusal}
+use Rattle.run.specs.Calls.{runRefusalOn}
 use Rattle.sheet.specs.Values.{asHold}
 use Rattle.hold.specs.declared.HoldAnswer.{HoldAnswer}
 
@@ -13,7 +13,7 @@ abbrev pub asHolding : HoldAnswer → Holding
 asHolding r = record { number = r .number; hold = asHold (r .hold) }
 
 -- the hold of a decoded line and train, by the lengths of the lent buffers
-unfoldable pub pairHeld : Line → Train → ℕ → ℕ → Holding
-pairHeld l t speeds times =
-    cond (eqb (pairRefusal l t speeds times) 0) (record { number = 0; hold = holdOf l t })
-    (record { number = pairRefusal l t speeds times; hold = emptyHold })
+unfoldable pub heldOn : Line → Train → ℕ → ℕ → Holding
+heldOn l t speeds times =
+    cond (eqb (runRefusalOn l t speeds times) 0) (record { number = 0; hold = holdOf l t })
+    (record { number = runRefusalOn l t speeds times; hold = emptyHold })

@@ -5,8 +5,8 @@ mod dwell;
 use approach::approach_point;
 use dwell::dwell_at;
 use dwell::stop_from;
-use line::Line;
-use line::Train;
+use values::Line;
+use values::Train;
 use sheet::HoldRecord;
 use widths::size;
 ghost use mathlib.Core.Path.{_≡_};
@@ -18,14 +18,14 @@ ghost use Rattle.rules.specs.Count.{entry};
 ghost use Rattle.rules.specs.Hold.{emptyHold, holdOf};
 ghost use Rattle.rules.specs.Run.{runRow};
 ghost use Rattle.rules.specs.Time.{runTimes};
-ghost use Rattle.line.specs.Values.{lineIn, trainIn};
-ghost use Rattle.run.specs.Calls.{pairSpeeds, pairTimes};
+ghost use Rattle.values.specs.Values.{asLine, asTrain};
+ghost use Rattle.run.specs.Calls.{speedsOn, timesOn};
 ghost use Rattle.sheet.specs.Values.{asHold};
-ghost use Rattle.hold.specs.Calls.{asHolding, pairHeld};
+ghost use Rattle.hold.specs.Calls.{asHolding, heldOn};
 
 // The number 0 and the hold record, or the number of refusal and a record of no blocks.
 pub struct HoldAnswer {
-    pub number: u8,
+    pub number: u64,
     pub hold: HoldRecord,
 }
 
@@ -41,32 +41,32 @@ fn empty_record(blocks: u64) -> HoldRecord
 
 // What a hold adds to the arrival that clears its block, in microseconds: release, set-up and 5 seconds of communication.
 fn clearing_time(line: Line) -> u64
-    ensures { λ r. ⌜ (r ≡ 100000 * line .release + 100000 * line .setup + 5000000) × (r < 13112000001) ⌝ }
+    ensures { λ r. ⌜ (r ≡ 100000 * line .release + 100000 * line .«set_up» + 5000000) × (r < 13112000001) ⌝ }
 {
-    100000 * line.release as u64 + 100000 * line.setup as u64 + 5000000
+    100000 * line.release as u64 + 100000 * line.set_up as u64 + 5000000
 }
 
 // The hold record of the run that the buffers hold.
 fn hold_record(line: Line, train: Train, speeds: &[u32], times: &[u64]) -> HoldRecord
-    requires { ⌜ Admitted (lineIn line) (trainIn train) ⌝ }
+    requires { ⌜ Admitted (asLine line) (asTrain train) ⌝ }
     requires { ⌜ (line .points ≤ length (now speeds)) × (line .points ≤ length (now times)) ⌝ }
-    requires { ⌜ ((k : ℕ) → k < line .points → entry (now speeds) k ≡ entry (runRow (lineIn line) (trainIn train)) k) ⌝ }
-    requires { ⌜ ((k : ℕ) → k < line .points → entry (now times) k ≡ entry (runTimes (lineIn line) (trainIn train)) k) ⌝ }
-    ensures { λ r. ⌜ asHold r ≡ holdOf (lineIn line) (trainIn train) ⌝ }
+    requires { ⌜ ((k : ℕ) → k < line .points → entry (now speeds) k ≡ entry (runRow (asLine line) (asTrain train)) k) ⌝ }
+    requires { ⌜ ((k : ℕ) → k < line .points → entry (now times) k ≡ entry (runTimes (asLine line) (asTrain train)) k) ⌝ }
+    ensures { λ r. ⌜ asHold r ≡ holdOf (asLine line) (asTrain train) ⌝ }
 {
-    let loss = line::braking_loss(line, train);
-    let cells = line::train_cells(line, train);
+    let loss = values::braking_loss(line, train);
+    let cells = values::train_cells(line, train);
     let clearing = clearing_time(line);
-    let mut hold = empty_record(line.blocks as u64);
+    let mut hold = empty_record(line.block_count as u64);
     let mut point = 0;
     let mut next = 0;
     let mut j = 0;
-    while j < line.blocks {
-        point = approach_point(speeds, loss, point, size(line.starts[j]));
-        next = stop_from(&train.halts, train.stops, next, point);
-        let dwell = dwell_at(&train.halts, &train.dwells, train.stops, next, point);
+    while j < line.block_count {
+        point = approach_point(speeds, loss, point, size(line.block_starts[j]));
+        next = stop_from(&train.stops, train.stop_count, next, point);
+        let dwell = dwell_at(&train.stops, &train.dwells, train.stop_count, next, point);
         hold.begins[j] = times[point] + dwell;
-        hold.ends[j] = times[size(line.ends[j]) + cells] + clearing;
+        hold.ends[j] = times[size(line.block_ends[j]) + cells] + clearing;
         j += 1;
     }
     hold
@@ -74,9 +74,9 @@ fn hold_record(line: Line, train: Train, speeds: &[u32], times: &[u64]) -> HoldR
 
 // The hold of a decoded train on a decoded line: rules 3 to 9 and 11, whatever the two hold. The buffers end as after `run::run_train`.
 pub fn hold_train(line: Line, train: Train, speeds: &mut [u32], times: &mut [u64]) -> HoldAnswer
-    ensures answer { λ r. ⌜ asHolding r ≡ pairHeld (lineIn line) (trainIn train) (length (now (speeds .entry))) (length (now (times .entry))) ⌝ }
-    ensures speeds { λ r. ⌜ now (speeds .exit) ≡ pairSpeeds (lineIn line) (trainIn train) (now (speeds .entry)) (now (times .entry)) ⌝ }
-    ensures times { λ r. ⌜ now (times .exit) ≡ pairTimes (lineIn line) (trainIn train) (now (speeds .entry)) (now (times .entry)) ⌝ }
+    ensures answer { λ r. ⌜ asHolding r ≡ heldOn (asLine line) (asTrain train) (length (now (speeds .entry))) (length (now (times .entry))) ⌝ }
+    ensures speeds { λ r. ⌜ now (speeds .exit) ≡ speedsOn (asLine line) (asTrain train) (now (speeds .entry)) (now (times .entry)) ⌝ }
+    ensures times { λ r. ⌜ now (times .exit) ≡ timesOn (asLine line) (asTrain train) (now (speeds .entry)) (now (times .entry)) ⌝ }
 {
     let number = run::run_train(line, train, speeds, times);
     if number != 0 {

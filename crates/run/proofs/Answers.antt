@@ -12,7 +12,7 @@ use Rattle.rules.specs.File.{pointCount}
 use Rattle.rules.specs.Line.{Line, Train, lineOf, trainOf}
 use Rattle.rules.specs.Run.{runRow, runAt}
 use Rattle.rules.specs.Time.{arrival, arrivals, runTimes, FastestRun}
-use Rattle.rules.specs.Refusal.{rule, refusal, pairRules, buffersLong}
+use Rattle.rules.specs.Refusal.{rule, refusal, rulesOn, buffersLong}
 use Rattle.rules.specs.Calls.{written, trainRefusal, runRefusal, speedsAfter, timesAfter}
 use Rattle.rules.specs.Admitted.{Parallel, Admitted}
 use Rattle.rules.proofs.Count.{length-row}
@@ -20,15 +20,15 @@ use Rattle.rules.proofs.Refusal.{refusal-none, refusal-cons, append-refused, ap
 use Rattle.rules.proofs.Calls.{run-leaves}
 use Rattle.rules.proofs.Pairs.{pair-rising, pair-kept}
 use Rattle.rules.proofs.Time.{fastest}
-use Rattle.line.specs.declared.decoded.Line as decodedLine
-use Rattle.line.specs.declared.decoded.Train as decodedTrain
-use Rattle.line.specs.Values.{lineIn, trainIn}
+use Rattle.values.specs.declared.decoded.Line as decodedLine
+use Rattle.values.specs.declared.decoded.Train as decodedTrain
+use Rattle.values.specs.Values.{asLine, asTrain}
 use Rattle.line.specs.Opened.{OpenPair, noLine, noTrain, openedTrain}
-use Rattle.run.specs.Calls.{pairRefusal, pairSpeeds, pairTimes}
+use Rattle.run.specs.Calls.{runRefusalOn, speedsOn, timesOn}
 use Rattle.run.proofs.Rows.{written-row}
 
 -- the arrays of a decoded line and train are parallel
-pub decoded-parallel : (l : decodedLine.Line) (t : decodedTrain.Train) → Parallel (lineIn l) (trainIn t)
+pub decoded-parallel : (l : decodedLine.Line) (t : decodedTrain.Train) → Parallel (asLine l) (asTrain t)
 decoded-parallel l t =
     record {
       limits = length-row _ (l .limits) ∙ sym (length-row _ (l .limits));
@@ -38,41 +38,41 @@ decoded-parallel l t =
     }
 
 module _ (l : Line) (t : Train) where
-  pub pair-refused : {r : ℕ} (ns nt : ℕ) → r ≡ refusal (pairRules l t) → (r ≡ 0 → ⊥) → r ≡ pairRefusal l t ns nt
-  unfolding pairRefusal
-  pair-refused ns nt e h = e ∙ sym (append-refused (pairRules l t) (rule 11 (buffersLong l ns nt) ∷ []) (pair-rising l t) (λ z. h (e ∙ z)))
+  pub pair-refused : {r : ℕ} (ns nt : ℕ) → r ≡ refusal (rulesOn l t) → (r ≡ 0 → ⊥) → r ≡ runRefusalOn l t ns nt
+  unfolding runRefusalOn
+  pair-refused ns nt e h = e ∙ sym (append-refused (rulesOn l t) (rule 11 (buffersLong l ns nt) ∷ []) (pair-rising l t) (λ z. h (e ∙ z)))
 
-  pub pair-by-buffers : (ns nt : ℕ) → refusal (pairRules l t) ≡ 0 → pairRefusal l t ns nt ≡ cond (buffersLong l ns nt) 0 11
-  unfolding pairRefusal
+  pub pair-by-buffers : (ns nt : ℕ) → refusal (rulesOn l t) ≡ 0 → runRefusalOn l t ns nt ≡ cond (buffersLong l ns nt) 0 11
+  unfolding runRefusalOn
   pair-by-buffers ns nt z =
-      append-kept (pairRules l t) (rule 11 (buffersLong l ns nt) ∷ []) (pair-rising l t) z ∙ refusal-cons 11 (buffersLong l ns nt) [] ∙ rw refusal-none
+      append-kept (rulesOn l t) (rule 11 (buffersLong l ns nt) ∷ []) (pair-rising l t) z ∙ refusal-cons 11 (buffersLong l ns nt) [] ∙ rw refusal-none
 
-  module _ (ns nt : ℕ) (z : refusal (pairRules l t) ≡ 0) where
-    pub short-speeds : ns < l .points → 11 ≡ pairRefusal l t ns nt
+  module _ (ns nt : ℕ) (z : refusal (rulesOn l t) ≡ 0) where
+    pub short-speeds : ns < l .points → 11 ≡ runRefusalOn l t ns nt
     unfolding buffersLong _and_
     short-speeds h = sym (pair-by-buffers ns nt z ∙ rw (lt-leb (l .points) ns h))
 
-    pub short-times : l .points ≤ ns → nt < l .points → 11 ≡ pairRefusal l t ns nt
+    pub short-times : l .points ≤ ns → nt < l .points → 11 ≡ runRefusalOn l t ns nt
     unfolding buffersLong _and_
     short-times g h = sym (pair-by-buffers ns nt z ∙ rw (le-leb (l .points) ns g, lt-leb (l .points) nt h))
 
-    pub long-enough : l .points ≤ ns → l .points ≤ nt → 0 ≡ pairRefusal l t ns nt
+    pub long-enough : l .points ≤ ns → l .points ≤ nt → 0 ≡ runRefusalOn l t ns nt
     unfolding buffersLong _and_
     long-enough g h = sym (pair-by-buffers ns nt z ∙ rw (le-leb (l .points) ns g, le-leb (l .points) nt h))
 
   module _ (speeds times : List ℕ) where
-    pub buffers-kept : {r : ℕ} → r ≡ pairRefusal l t (length speeds) (length times) → (r ≡ 0 → ⊥) → (speeds ≡ pairSpeeds l t speeds times) × (times ≡ pairTimes l t speeds times)
-    unfolding pairSpeeds pairTimes
+    pub buffers-kept : {r : ℕ} → r ≡ runRefusalOn l t (length speeds) (length times) → (r ≡ 0 → ⊥) → (speeds ≡ speedsOn l t speeds times) × (times ≡ timesOn l t speeds times)
+    unfolding speedsOn timesOn
     buffers-kept e h =
-        let q = ne-eqb (pairRefusal l t (length speeds) (length times)) 0 (λ z. h (e ∙ z)) in
+        let q = ne-eqb (runRefusalOn l t (length speeds) (length times)) 0 (λ z. h (e ∙ z)) in
         (rw q, rw q)
 
     pub buffers-written :
-        {speeds′ times′ : List ℕ} → 0 ≡ pairRefusal l t (length speeds) (length times) → speeds′ ≡ written speeds 0 (runRow l t) → times′ ≡ written times 0 (runTimes l t) →
-        (speeds′ ≡ pairSpeeds l t speeds times) × (times′ ≡ pairTimes l t speeds times)
-    unfolding pairSpeeds pairTimes
+        {speeds′ times′ : List ℕ} → 0 ≡ runRefusalOn l t (length speeds) (length times) → speeds′ ≡ written speeds 0 (runRow l t) → times′ ≡ written times 0 (runTimes l t) →
+        (speeds′ ≡ speedsOn l t speeds times) × (times′ ≡ timesOn l t speeds times)
+    unfolding speedsOn timesOn
     buffers-written e p q =
-        let z = eq-eqb (pairRefusal l t (length speeds) (length times)) 0 (sym e) in
+        let z = eq-eqb (runRefusalOn l t (length speeds) (length times)) 0 (sym e) in
         (rw (z, p), rw (z, q))
 
   -- the first P entries are the run and its arrivals
@@ -93,12 +93,12 @@ module _ (file : List ℕ) (k : ℕ) where
     of-file : Admitted (lineOf file) (trainOf file k)
     of-file = let both = train-accepted file k z in admitted file (both .0) k (both .1)
 
-    pub same-refusal : (ns nt : ℕ) → pairRefusal (lineOf file) (trainOf file k) ns nt ≡ runRefusal file k ns nt
+    pub same-refusal : (ns nt : ℕ) → runRefusalOn (lineOf file) (trainOf file k) ns nt ≡ runRefusal file k ns nt
     same-refusal ns nt = pair-by-buffers (lineOf file) (trainOf file k) ns nt (pair-kept _ _ of-file) ∙ sym (run-by-buffers file k ns nt z)
 
     pub same-buffers : (speeds times : List ℕ) →
-        (pairSpeeds (lineOf file) (trainOf file k) speeds times ≡ speedsAfter file k speeds times) × (pairTimes (lineOf file) (trainOf file k) speeds times ≡ timesAfter file k speeds times)
-    unfolding pairSpeeds pairTimes speedsAfter timesAfter
+        (speedsOn (lineOf file) (trainOf file k) speeds times ≡ speedsAfter file k speeds times) × (timesOn (lineOf file) (trainOf file k) speeds times ≡ timesAfter file k speeds times)
+    unfolding speedsOn timesOn speedsAfter timesAfter
     same-buffers speeds times = (rw (same-refusal (length speeds) (length times)), rw (same-refusal (length speeds) (length times)))
 
   points-are : lineOf file .points ≡ pointCount file
@@ -141,12 +141,12 @@ module _ (file : List ℕ) (k : ℕ) where
       train-is = ap (λ (p : OpenPair). p .train) (e ∙ opened-pair accepted)
 
       pub as-run : (speeds times : List ℕ) {r : ℕ} {speeds′ times′ : List ℕ} →
-          r ≡ pairRefusal (o .line) (o .train) (length speeds) (length times) → speeds′ ≡ pairSpeeds (o .line) (o .train) speeds times → times′ ≡ pairTimes (o .line) (o .train) speeds times →
+          r ≡ runRefusalOn (o .line) (o .train) (length speeds) (length times) → speeds′ ≡ speedsOn (o .line) (o .train) speeds times → times′ ≡ timesOn (o .line) (o .train) speeds times →
           (r ≡ runRefusal file k (length speeds) (length times)) × (speeds′ ≡ speedsAfter file k speeds times) × (times′ ≡ timesAfter file k speeds times)
       as-run speeds times {r} {speeds′} {times′} p q s =
-          let p′ : r ≡ pairRefusal (lineOf file) (trainOf file k) (length speeds) (length times) = rw (line-is, train-is) at p in
-          let q′ : speeds′ ≡ pairSpeeds (lineOf file) (trainOf file k) speeds times = rw (line-is, train-is) at q in
-          let s′ : times′ ≡ pairTimes (lineOf file) (trainOf file k) speeds times = rw (line-is, train-is) at s in
+          let p′ : r ≡ runRefusalOn (lineOf file) (trainOf file k) (length speeds) (length times) = rw (line-is, train-is) at p in
+          let q′ : speeds′ ≡ speedsOn (lineOf file) (trainOf file k) speeds times = rw (line-is, train-is) at q in
+          let s′ : times′ ≡ timesOn (lineOf file) (trainOf file k) speeds times = rw (line-is, train-is) at s in
           (p′ ∙ same-refusal accepted (length speeds) (length times), q′ ∙ same-buffers accepted speeds times .0, s′ ∙ same-buffers accepted speeds times .1)
 
       pub as-fastest : (s m : List ℕ) → FastestRun (o .line) (o .train) (take (o .line .points) s) (take (o .line .points) m) → FastestRun (lineOf file) (trainOf file k) (take (pointCount file) s) (take (pointCount file) m)

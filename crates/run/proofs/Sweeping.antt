@@ -16,9 +16,9 @@ use Rattle.rules.proofs.Step.{step-mono, step-keeps, squared-most, last-top-mos
 use Rattle.rules.proofs.Cap.{cap-top}
 use Rattle.run.specs.Stops.{NextStop, stopHere}
 use Rattle.run.proofs.Halts.{stop-is}
-use Rattle.line.specs.declared.decoded.Line as decodedLine
-use Rattle.line.specs.declared.decoded.Train as decodedTrain
-use Rattle.line.specs.Values.{lineIn, trainIn}
+use Rattle.values.specs.declared.decoded.Line as decodedLine
+use Rattle.values.specs.declared.decoded.Train as decodedTrain
+use Rattle.values.specs.Values.{asLine, asTrain}
 use Rattle.run.specs.declared.walk.Under.{Under}
 use Rattle.run.specs.Walk.{IsNext}
 use Rattle.run.proofs.Lowest.{lowest-agree}
@@ -61,52 +61,52 @@ module _ (l : Line) (t : Train) (a : Admitted l t) where
 
 -- ---- the walk over a decoded line and train
 
-module _ (line : decodedLine.Line) (train : decodedTrain.Train) (a : Admitted (lineIn line) (trainIn train)) where
+module _ (line : decodedLine.Line) (train : decodedTrain.Train) (a : Admitted (asLine line) (asTrain train)) where
   abbrev l : Line
-  l = lineIn line
+  l = asLine line
 
   abbrev t : Train
-  t = trainIn train
+  t = asTrain train
 
-  pub counts : (1 ≤ line .limits) × (line .limits ≤ 64) × (train .stops ≤ 32) × (line .limits ≡ length (l .limitPoints)) × (train .stops ≡ length (t .stops))
+  pub counts : (1 ≤ line .«limit_count») × (line .«limit_count» ≤ 64) × (train .«stop_count» ≤ 32) × (line .«limit_count» ≡ length (l .limitPoints)) × (train .«stop_count» ≡ length (t .stops))
   counts =
-      let k = length-row (entry (line .speeds)) (line .limits) in
-      let p = length-row (entry (line .froms)) (line .limits) in
-      let s = length-row (entry (train .halts)) (train .stops) in
+      let k = length-row (entry (line .limits)) (line .«limit_count») in
+      let p = length-row (entry (line .«limit_points»)) (line .«limit_count») in
+      let s = length-row (entry (train .stops)) (train .«stop_count») in
       (omega (arith, a .rule3Line .limits-least), omega (arith, a .rule3Line .limits-most), omega (arith, a .rule3Train .stops-most), sym p, sym s)
 
   -- the lowest limit by the array and by the list
-  by-array : (top tail n : ℕ) → tail + n ≤ line .limits → lowestFrom (entry (l .limits)) top tail n ≡ lowestFrom (entry (line .speeds)) top tail n
-  by-array top tail n h = lowest-agree _ _ top tail n (λ k p q. entry-row (entry (line .speeds)) (line .limits) k (omega arith))
+  by-array : (top tail n : ℕ) → tail + n ≤ line .«limit_count» → lowestFrom (entry (l .limits)) top tail n ≡ lowestFrom (entry (line .limits)) top tail n
+  by-array top tail n h = lowest-agree _ _ top tail n (λ k p q. entry-row (entry (line .limits)) (line .«limit_count») k (omega arith))
 
   pub under-ready :
       {n top i head tail lowest : ℕ} → IsUnder l n top i head tail lowest →
-      (head < line .limits) × (tail < line .limits) × (lowest ≡ lowestFrom (entry (line .speeds)) top tail (head + 1 - tail))
+      (head < line .«limit_count») × (tail < line .«limit_count») × (lowest ≡ lowestFrom (entry (line .limits)) top tail (head + 1 - tail))
   under-ready {n} {top} {i} {head} {tail} u =
       let c = counts in
-      let h : head < line .limits = omega (arith, u .head-in .there) in
-      let m : tail < line .limits = omega (arith, u .tail-in .there) in
+      let h : head < line .«limit_count» = omega (arith, u .head-in .there) in
+      let m : tail < line .«limit_count» = omega (arith, u .tail-in .there) in
       (h, m, u .lowest-is ∙ by-array top tail (head + 1 - tail) (omega arith))
 
-  pub under-begun : (n top : ℕ) {lowest : ℕ} → lowest ≡ lowestFrom (entry (line .speeds)) top 0 1 → IsUnder l n top 0 0 0 lowest
+  pub under-begun : (n top : ℕ) {lowest : ℕ} → lowest ≡ lowestFrom (entry (line .limits)) top 0 1 → IsUnder l n top 0 0 0 lowest
   under-begun n top q = under-first l t a n top _ (q ∙ sym (by-array top 0 1 (omega (arith, counts .0))))
 
   pub under-on :
       (n top i : ℕ) {u v : Under} → IsUnder l n top i (u .head) (u .tail) (u .lowest) →
-      IsNext (line .froms) (line .speeds) (line .limits) top n (i + 1) u v → IsUnder l n top (i + 1) (v .head) (v .tail) (v .lowest)
+      IsNext (line .«limit_points») (line .limits) (line .«limit_count») top n (i + 1) u v → IsUnder l n top (i + 1) (v .head) (v .tail) (v .lowest)
   under-on n top i {u} {v} w x =
       let c = counts in
       let r = under-ready w in
-      let h : v .head < line .limits = rw (x .head) (next-below (line .froms) (line .limits) (u .head) (i + 1) (r .0)) in
-      let m : v .tail < line .limits = rw (x .tail) (next-below (line .froms) (line .limits) (u .tail) (i + 1 - n) (r .1)) in
-      under-next l t a (line .froms) (line .limits) n top i (c .3) (λ k g. sym (entry-row (entry (line .froms)) (line .limits) k g)) w (x .head) (x .tail)
+      let h : v .head < line .«limit_count» = rw (x .head) (next-below (line .«limit_points») (line .«limit_count») (u .head) (i + 1) (r .0)) in
+      let m : v .tail < line .«limit_count» = rw (x .tail) (next-below (line .«limit_points») (line .«limit_count») (u .tail) (i + 1 - n) (r .1)) in
+      under-next l t a (line .«limit_points») (line .«limit_count») n top i (c .3) (λ k g. sym (entry-row (entry (line .«limit_points»)) (line .«limit_count») k g)) w (x .head) (x .tail)
       (x .lowest ∙ sym (by-array top (v .tail) (v .head + 1 - v .tail) (omega arith)))
 
   -- the stop ahead by the array and by the list
-  pub stop-by-list : (next i : ℕ) → stopHere (train .halts) (train .stops) next i ≡ stopHere (t .stops) (length (t .stops)) next i
+  pub stop-by-list : (next i : ℕ) → stopHere (train .stops) (train .«stop_count») next i ≡ stopHere (t .stops) (length (t .stops)) next i
   unfolding stopHere _and_
-  stop-by-list next i = rw length-row (go (ltb next (train .stops)) refl)
+  stop-by-list next i = rw length-row (go (ltb next (train .«stop_count»)) refl)
     where
-      go : (b : Bool) → ltb next (train .stops) ≡ b → (b and eqb (entry (train .halts) next) i) ≡ (b and eqb (entry (t .stops) next) i)
-      go true e = ap (λ x. eqb x i) (sym (entry-row (entry (train .halts)) (train .stops) next (ltb-true _ _ e)))
+      go : (b : Bool) → ltb next (train .«stop_count») ≡ b → (b and eqb (entry (train .stops) next) i) ≡ (b and eqb (entry (t .stops) next) i)
+      go true e = ap (λ x. eqb x i) (sym (entry-row (entry (train .stops)) (train .«stop_count») next (ltb-true _ _ e)))
       go false e = refl

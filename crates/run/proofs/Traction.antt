@@ -12,8 +12,8 @@ use Rattle.rules.specs.Admitted.{Admitted}
 use Rattle.rules.specs.Meaning.{bandPart}
 use Rattle.rules.proofs.Count.{at-most-greatest, greatest-at-most, length-row, entry-row}
 use Rattle.rules.proofs.Step.{practice-most, squared-most, last-top, step-is}
-use Rattle.line.specs.Values.{trainIn}
-use Rattle.line.specs.declared.decoded.Train as decoded
+use Rattle.values.specs.Values.{asTrain}
+use Rattle.values.specs.declared.decoded.Train as decoded
 use Rattle.run.specs.declared.bands.Bands.{Bands}
 use Rattle.run.specs.Traction.{IsBands, BandBounds}
 
@@ -43,7 +43,7 @@ last-of-row f n h =
 
 -- ---- the bands in use of a decoded train
 
-module _ (l : Line) (t : decoded.Train) (a : Admitted l (trainIn t)) where
+module _ (l : Line) (t : decoded.Train) (a : Admitted l (asTrain t)) where
   pub count-least : 1 ≤ t .bands
   count-least = omega (arith, length-row (entry (t .tops)) (t .bands))
 

@@ -7,15 +7,15 @@ use lib.ListN.{length}
 use Rattle.rules.specs.Line.{Line, Train}
 use Rattle.rules.specs.Run.{runRow}
 use Rattle.rules.specs.Time.{runTimes}
-use Rattle.rules.specs.Refusal.{rule, refusal, pairRules, buffersLong}
+use Rattle.rules.specs.Refusal.{rule, refusal, rulesOn, buffersLong}
 use Rattle.rules.specs.Calls.{written}
 
 -- rules 3 to 9, then 11, by the lengths of the lent buffers
-unfoldable pub pairRefusal : Line → Train → ℕ → ℕ → ℕ
-pairRefusal l t speeds times = refusal (pairRules l t ++ (rule 11 (buffersLong l speeds times) ∷ []))
+unfoldable pub runRefusalOn : Line → Train → ℕ → ℕ → ℕ
+runRefusalOn l t speeds times = refusal (rulesOn l t ++ (rule 11 (buffersLong l speeds times) ∷ []))
 
-unfoldable pub pairSpeeds : Line → Train → List ℕ → List ℕ → List ℕ
-pairSpeeds l t speeds times = cond (eqb (pairRefusal l t (length speeds) (length times)) 0) (written speeds 0 (runRow l t)) speeds
+unfoldable pub speedsOn : Line → Train → List ℕ → List ℕ → List ℕ
+speedsOn l t speeds times = cond (eqb (runRefusalOn l t (length speeds) (length times)) 0) (written speeds 0 (runRow l t)) speeds
 
-unfoldable pub pairTimes : Line → Train → List ℕ → List ℕ → List ℕ
-pairTimes l t speeds times = cond (eqb (pairRefusal l t (length speeds) (length times)) 0) (written times 0 (runTimes l t)) times
+unfoldable pub timesOn : Line → Train → List ℕ → List ℕ → List ℕ
+timesOn l t speeds times = cond (eqb (runRefusalOn l t (length speeds) (length times)) 0) (written times 0 (runTimes l t)) times

@@ -4,14 +4,14 @@ use crate::numbers::greater;
 use crate::numbers::lesser;
 use crate::numbers::squared_of;
 use crate::speed::SquaredSpeed;
-use line::Line;
-use line::Train;
+use values::Line;
+use values::Train;
 use widths::wide;
 ghost use mathlib.Core.Path.{_≡_};
 ghost use Prim.Native.Nat.{_+_, _≤_, min};
 ghost use Rattle.rules.specs.Admitted.{Admitted};
 ghost use Rattle.rules.specs.Count.{entry, greatestBelow};
-ghost use Rattle.line.specs.Values.{lineIn, trainIn};
+ghost use Rattle.values.specs.Values.{asLine, asTrain};
 ghost use Rattle.run.specs.Traction.{IsBands, BandBounds};
 
 // Of each band the squared speed gained over one step, and the square of 100 times its top.
@@ -22,11 +22,11 @@ pub struct Bands {
 }
 
 pub(crate) fn bands_of(line: Line, train: Train) -> Bands
-    requires { ⌜ Admitted (lineIn line) (trainIn train) ⌝ }
-    ensures { λ r. ⌜ IsBands (lineIn line) (trainIn train) r ⌝ }
+    requires { ⌜ Admitted (asLine line) (asTrain train) ⌝ }
+    ensures { λ r. ⌜ IsBands (asLine line) (asTrain train) r ⌝ }
 {
     let step = wide(line.step);
-    let count = train.bands;
+    let count = train.band_count;
     let mut gains = [0u32; 8];
     let mut mosts = [0u32; 8];
     let mut k = 0;

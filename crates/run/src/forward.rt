@@ -10,8 +10,8 @@ use crate::sweep::last_top;
 use crate::walk::Under;
 use crate::walk::lowest_limit;
 use crate::walk::under_at;
-use line::Line;
-use line::Train;
+use values::Line;
+use values::Train;
 use widths::size;
 ghost use mathlib.Core.Bool.{cond};
 ghost use mathlib.Core.List.{_++_};
@@ -21,7 +21,7 @@ ghost use lib.ListN.{length, drop};
 ghost use Rattle.rules.specs.Admitted.{Admitted};
 ghost use Rattle.rules.specs.Count.{entry, greatestBelow, row};
 ghost use Rattle.rules.specs.Run.{squared, forward};
-ghost use Rattle.line.specs.Values.{lineIn, trainIn};
+ghost use Rattle.values.specs.Values.{asLine, asTrain};
 ghost use Rattle.run.specs.Traction.{BandBounds};
 
 // The cap of a speed in km/h: 0 at a stop.
@@ -55,15 +55,15 @@ fn capped_step(
 }
 
 pub(crate) fn write_forward(line: Line, train: Train, speeds: &mut [u32])
-    requires { ⌜ Admitted (lineIn line) (trainIn train) ⌝ }
+    requires { ⌜ Admitted (asLine line) (asTrain train) ⌝ }
     requires { ⌜ line .points ≤ length (now speeds) ⌝ }
-    ensures { λ _. ⌜ now (speeds .exit) ≡ row (forward (lineIn line) (trainIn train)) (line .points) ++ drop (line .points) (now (speeds .entry)) ⌝ }
+    ensures { λ _. ⌜ now (speeds .exit) ≡ row (forward (asLine line) (asTrain train)) (line .points) ++ drop (line .points) (now (speeds .entry)) ⌝ }
 {
     let points = size(line.points);
-    let froms = line.froms;
-    let limits = line.speeds;
-    let halts = train.halts;
-    let n = line::train_cells(line, train);
+    let limit_points = line.limit_points;
+    let limits = line.limits;
+    let halts = train.stops;
+    let n = values::train_cells(line, train);
     let top = last_top(train);
     let bands = bands_of(line, train);
     let gains = bands.gains;
@@ -79,12 +79,12 @@ pub(crate) fn write_forward(line: Line, train: Train, speeds: &mut [u32])
     let mut w = SquaredSpeed(900000000);
     let mut i = 0;
     while i < points {
-        let stopped = stop_here(&halts, train.stops, next, i);
+        let stopped = stop_here(&halts, train.stop_count, next, i);
         let cap = cap_of(stopped, under.lowest);
         w = capped_step(bands.count, &gains, &mosts, w, cap);
         speeds[i] = w.0;
         next = after_point(next, stopped);
         i += 1;
-        under = under_at(&froms, &limits, line.limits, top, n, i, under);
+        under = under_at(&limit_points, &limits, line.limit_count, top, n, i, under);
     }
 }

@@ -10,8 +10,8 @@ mod times;
 mod walk;
 
 use forward::write_forward;
-use line::Line;
-use line::Train;
+use values::Line;
+use values::Train;
 use numbers::narrow;
 use sweep::write_backward;
 use times::write_times;
@@ -25,29 +25,29 @@ ghost use Rattle.rules.specs.File.{pointCount};
 ghost use Rattle.rules.specs.Line.{lineOf, trainOf};
 ghost use Rattle.rules.specs.Run.{runRow};
 ghost use Rattle.rules.specs.Time.{runTimes, FastestRun};
-ghost use Rattle.line.specs.Values.{lineIn, trainIn};
-ghost use Rattle.run.specs.Calls.{pairRefusal, pairSpeeds, pairTimes};
+ghost use Rattle.values.specs.Values.{asLine, asTrain};
+ghost use Rattle.run.specs.Calls.{runRefusalOn, speedsOn, timesOn};
 
 // Writes the run's squared speeds and arrivals.
 fn write_run(line: Line, train: Train, speeds: &mut [u32], times: &mut [u64])
-    requires { ⌜ Admitted (lineIn line) (trainIn train) ⌝ }
+    requires { ⌜ Admitted (asLine line) (asTrain train) ⌝ }
     requires { ⌜ (line .points ≤ length (now speeds)) × (line .points ≤ length (now times)) ⌝ }
-    ensures { λ _. ⌜ (now (speeds .exit) ≡ written (now (speeds .entry)) 0 (runRow (lineIn line) (trainIn train))) × (now (times .exit) ≡ written (now (times .entry)) 0 (runTimes (lineIn line) (trainIn train))) ⌝ }
+    ensures { λ _. ⌜ (now (speeds .exit) ≡ written (now (speeds .entry)) 0 (runRow (asLine line) (asTrain train))) × (now (times .exit) ≡ written (now (times .entry)) 0 (runTimes (asLine line) (asTrain train))) ⌝ }
 {
     write_forward(line, train, speeds);
-    let loss = narrow(line::braking_loss(line, train));
+    let loss = narrow(values::braking_loss(line, train));
     write_backward(size(line.points), loss, speeds);
     write_times(line, train, speeds, times);
 }
 
 // The run of a decoded train on a decoded line: rules 3 to 9 and 11, whatever the two hold. A refusal leaves both buffers as they came.
-pub fn run_train(line: Line, train: Train, speeds: &mut [u32], times: &mut [u64]) -> u8
-    ensures number { λ r. ⌜ r ≡ pairRefusal (lineIn line) (trainIn train) (length (now (speeds .entry))) (length (now (times .entry))) ⌝ }
-    ensures speeds { λ r. ⌜ now (speeds .exit) ≡ pairSpeeds (lineIn line) (trainIn train) (now (speeds .entry)) (now (times .entry)) ⌝ }
-    ensures times { λ r. ⌜ now (times .exit) ≡ pairTimes (lineIn line) (trainIn train) (now (speeds .entry)) (now (times .entry)) ⌝ }
-    ensures fastest { λ r. ⌜ (r ≡ 0 → FastestRun (lineIn line) (trainIn train) (take (line .points) (now (speeds .exit))) (take (line .points) (now (times .exit)))) ⌝ }
+pub fn run_train(line: Line, train: Train, speeds: &mut [u32], times: &mut [u64]) -> u64
+    ensures number { λ r. ⌜ r ≡ runRefusalOn (asLine line) (asTrain train) (length (now (speeds .entry))) (length (now (times .entry))) ⌝ }
+    ensures speeds { λ r. ⌜ now (speeds .exit) ≡ speedsOn (asLine line) (asTrain train) (now (speeds .entry)) (now (times .entry)) ⌝ }
+    ensures times { λ r. ⌜ now (times .exit) ≡ timesOn (asLine line) (asTrain train) (now (speeds .entry)) (now (times .entry)) ⌝ }
+    ensures fastest { λ r. ⌜ (r ≡ 0 → FastestRun (asLine line) (asTrain train) (take (line .points) (now (speeds .exit))) (take (line .points) (now (times .exit)))) ⌝ }
 {
-    let number = line::pair_refusal(line, train);
+    let number = judging::refusal_on(line, train);
     if number != 0 {
         return number;
     }
@@ -64,7 +64,7 @@ pub fn run_train(line: Line, train: Train, speeds: &mut [u32], times: &mut [u64]
 
 // The run call: rules 1 to 11 for train k of a file. Of an accepted call the first P entries of `speeds` are the run, those of `times` its
 // arrivals; no permitted rival reaches a point before. A refusal leaves both buffers as they came.
-pub fn run(file: &[u8], k: u64, speeds: &mut [u32], times: &mut [u64]) -> u8
+pub fn run(file: &[u8], k: u64, speeds: &mut [u32], times: &mut [u64]) -> u64
     ensures number { λ r. ⌜ r ≡ runRefusal (now (file .entry)) k (length (now (speeds .entry))) (length (now (times .entry))) ⌝ }
     ensures speeds { λ r. ⌜ now (speeds .exit) ≡ speedsAfter (now (file .entry)) k (now (speeds .entry)) (now (times .entry)) ⌝ }
     ensures times { λ r. ⌜ now (times .exit) ≡ timesAfter (now (file .entry)) k (now (speeds .entry)) (now (times .entry)) ⌝ }

@@ -1,6 +1,6 @@
 // The backward sweep of a run, and the last band's top.
 use crate::numbers::lesser;
-use line::Train;
+use values::Train;
 use widths::wide;
 ghost use mathlib.Core.List.{_++_};
 ghost use mathlib.Core.Path.{_≡_};
@@ -8,14 +8,14 @@ ghost use Prim.Native.Nat.{ℕ, _≤_, _<_};
 ghost use lib.ListN.{length, drop};
 ghost use Rattle.rules.specs.Count.{entry, row};
 ghost use Rattle.rules.specs.Run.{lastTop, backwardSweep};
-ghost use Rattle.line.specs.Values.{trainIn};
+ghost use Rattle.values.specs.Values.{asTrain};
 
 // The last band's top, in km/h.
 pub(crate) fn last_top(train: Train) -> u32
-    requires { ⌜ (1 ≤ train .bands) × (train .bands ≤ 64) ⌝ }
-    ensures { λ r. ⌜ r ≡ lastTop (trainIn train) ⌝ }
+    requires { ⌜ (1 ≤ train .«band_count») × (train .«band_count» ≤ 64) ⌝ }
+    ensures { λ r. ⌜ r ≡ lastTop (asTrain train) ⌝ }
 {
-    let last = train.bands - 1;
+    let last = train.band_count - 1;
     wide(train.tops[last])
 }
 

@@ -3,8 +3,8 @@ use crate::root::root;
 use crate::root::root_after;
 use crate::speed::Speed;
 use crate::speed::SquaredSpeed;
-use line::Line;
-use line::Train;
+use values::Line;
+use values::Train;
 use widths::size;
 use widths::wide64;
 ghost use mathlib.Core.Path.{_≡_};
@@ -15,7 +15,7 @@ ghost use Rattle.rules.specs.Calls.{written};
 ghost use Rattle.rules.specs.Count.{entry, row};
 ghost use Rattle.rules.specs.Run.{runRow};
 ghost use Rattle.rules.specs.Time.{cellTime, runTimes};
-ghost use Rattle.line.specs.Values.{lineIn, trainIn};
+ghost use Rattle.values.specs.Values.{asLine, asTrain};
 ghost use Rattle.run.specs.Stops.{Apart, NextStop, dwellBefore};
 
 // The dwell at a point in microseconds, and the next stop of the point after it.
@@ -66,10 +66,10 @@ fn pass_point<'a>(
 
 // Fills `times` with the arrivals of the run that `speeds` holds.
 pub(crate) fn write_times(line: Line, train: Train, speeds: &[u32], times: &mut [u64])
-    requires { ⌜ Admitted (lineIn line) (trainIn train) ⌝ }
+    requires { ⌜ Admitted (asLine line) (asTrain train) ⌝ }
     requires { ⌜ (line .points ≤ length (now speeds)) × (line .points ≤ length (now times)) ⌝ }
-    requires { ⌜ ((k : ℕ) → k < line .points → entry (now speeds) k ≡ entry (runRow (lineIn line) (trainIn train)) k) ⌝ }
-    ensures { λ _. ⌜ now (times .exit) ≡ written (now (times .entry)) 0 (runTimes (lineIn line) (trainIn train)) ⌝ }
+    requires { ⌜ ((k : ℕ) → k < line .points → entry (now speeds) k ≡ entry (runRow (asLine line) (asTrain train)) k) ⌝ }
+    ensures { λ _. ⌜ now (times .exit) ≡ written (now (times .entry)) 0 (runTimes (asLine line) (asTrain train)) ⌝ }
 {
     let last = size(line.points) - 1;
     let mut i = 0;
@@ -78,7 +78,7 @@ pub(crate) fn write_times(line: Line, train: Train, speeds: &[u32], times: &mut 
     let mut here = root(SquaredSpeed(speeds[0]));
     while i < last {
         times[i] = time;
-        let passing = pass_point(&train.halts, &train.dwells, train.stops, next, i);
+        let passing = pass_point(&train.stops, &train.dwells, train.stop_count, next, i);
         let there = root_after(SquaredSpeed(speeds[i]), here, SquaredSpeed(speeds[i + 1]));
         time = time + passing.dwell + cell_time(wide64(line.step), here, there);
         next = passing.next;

@@ -23,13 +23,13 @@ fn less(a: usize, b: usize) -> usize
 }
 
 // The limit that holds in cell c, where limit `at` held in the cell before it or holds there.
-fn next_begun(froms: &[u16; 64], count: usize, at: usize, c: usize) -> usize
+fn next_begun(points: &[u16; 64], count: usize, at: usize, c: usize) -> usize
     requires { ⌜ (at < count) × (count ≤ 64) ⌝ }
-    ensures { λ r. ⌜ r ≡ nextBegun (now (froms .entry)) count at c ⌝ }
+    ensures { λ r. ⌜ r ≡ nextBegun (now (points .entry)) count at c ⌝ }
 {
     let next = at + 1;
     if next < count {
-        if size(froms[next]) <= c {
+        if size(points[next]) <= c {
             return next;
         }
     }
@@ -52,7 +52,7 @@ pub(crate) fn lowest_limit(limits: &[u16; 64], top: u32, tail: usize, head: usiz
 
 // The limits that the train is under with its head at point i, from those at the point before. `n` is its length in cells.
 pub(crate) fn under_at(
-    froms: &[u16; 64],
+    points: &[u16; 64],
     limits: &[u16; 64],
     count: usize,
     top: u32,
@@ -62,10 +62,10 @@ pub(crate) fn under_at(
 ) -> Under
     requires { ⌜ (under .head < count) × (under .tail < count) × (count ≤ 64) ⌝ }
     requires { ⌜ under .lowest ≡ lowestFrom (entry (now limits)) top (under .tail) (under .head + 1 - under .tail) ⌝ }
-    ensures { λ r. ⌜ IsNext (now (froms .entry)) (now (limits .entry)) count top n i under r ⌝ }
+    ensures { λ r. ⌜ IsNext (now (points .entry)) (now (limits .entry)) count top n i under r ⌝ }
 {
-    let head = next_begun(froms, count, under.head, i);
-    let tail = next_begun(froms, count, under.tail, less(i, n));
+    let head = next_begun(points, count, under.head, i);
+    let tail = next_begun(points, count, under.tail, less(i, n));
     if head == under.head {
         if tail == under.tail {
             return under;

@@ -6,7 +6,7 @@ use mathlib.Core.Path.{_≡_, sym, _∙_}
 use Prim.Native.Nat.{_-_, _≤_, _<_}
 use Rattle.hold.proofs.Filling.{Holds, holds-first, holds-all, approach-asks, point-is, point-on, begin-is, begin-most, clear-on, clear-most, end-is, holds-on}
 use Rattle.sheet.specs.Values.{asHold}
-use Rattle.line.specs.Values.{lineIn, trainIn}
+use Rattle.values.specs.Values.{asLine, asTrain}
 use native.Mathlib.Omega.{arith}
 use mathlib.Core.Path.{sym, _∙_}
 use Prim.Native.Nat.{_-_}
@@ -15,23 +15,23 @@ use Rattle.hold.proofs.hold_record.Statement.{statement}
 use Rattle.hold.proofs.hold_record.Tie as tie
 
 abbrev Inv-loop : tie.InvT-loop
-Inv-loop speeds times line train loss cells clearing hold₀ point₀ next₀ j₀ hold point next j = Holds (lineIn line) (trainIn train) (asHold hold) point next j
+Inv-loop speeds times line train loss cells clearing hold₀ point₀ next₀ j₀ hold point next j = Holds (asLine line) (asTrain train) (asHold hold) point next j
 
 abbrev μ-loop : tie.MeasureT-loop
-μ-loop speeds times line train loss cells clearing hold₀ point₀ next₀ j₀ hold point next j = line .blocks - j
+μ-loop speeds times line train loss cells clearing hold₀ point₀ next₀ j₀ hold point next j = line .«block_count» - j
 
 abbrev start : tie.In-loop Inv-loop μ-loop → tie.Start Inv-loop μ-loop
 start c = c .before .before .before .before .before .before .before .before
 
 -- one of the blocks
-in-block : (c : tie.In-loop Inv-loop μ-loop) → c .before .loop .j < length (lineIn (start c .args .t1) .blockStarts)
+in-block : (c : tie.In-loop Inv-loop μ-loop) → c .before .loop .j < length (asLine (start c .args .t1) .blockStarts)
 in-block c = rw length-row (omega arith)
 
 -- its start and its end
-start-here : (c : tie.After-size Inv-loop μ-loop) → c .size .result ≡ entry (lineIn (start (c .before .before) .args .t1) .blockStarts) (c .before .before .before .loop .j)
+start-here : (c : tie.After-size Inv-loop μ-loop) → c .size .result ≡ entry (asLine (start (c .before .before) .args .t1) .blockStarts) (c .before .before .before .loop .j)
 start-here c = c .size .ensures .0 ∙ sym (entry-row _ _ _ (rw length-row at (in-block (c .before .before))))
 
-end-here : (c : tie.After-size2 Inv-loop μ-loop) → c .size2 .result ≡ entry (lineIn (start (c .before .before .before .before .before .before .before .before .before .before .before .before .before) .args .t1) .blockEnds) (c .before .before .before .before .before .before .before .before .before .before .before .before .before .before .loop .j)
+end-here : (c : tie.After-size2 Inv-loop μ-loop) → c .size2 .result ≡ entry (asLine (start (c .before .before .before .before .before .before .before .before .before .before .before .before .before) .args .t1) .blockEnds) (c .before .before .before .before .before .before .before .before .before .before .before .before .before .before .loop .j)
 end-here c = c .size2 .ensures .0 ∙ sym (entry-row _ _ _ (rw length-row at (in-block (c .before .before .before .before .before .before .before .before .before .before .before .before .before))))
 
 -- its approach point is on the line, and the departure from there is in range

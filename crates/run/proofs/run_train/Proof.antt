@@ -1,5 +1,5 @@
 use lib.ListN.{length}
-use Rattle.line.specs.Values.{lineIn, trainIn}
+use Rattle.values.specs.Values.{asLine, asTrain}
 use mathlib.Core.Path.{sym, _∙_}
 use Rattle.rules.proofs.Pairs.{pair-admitted}
 use Rattle.run.proofs.Answers.{decoded-parallel, pair-refused, short-speeds, short-times, long-enough, buffers-kept, buffers-written, first-points}
@@ -15,7 +15,7 @@ returns : tie.Need-returns
 returns c =
     let a = c .before .before .before .before .args in
     let e = pair-refused _ _ _ _ (c .before .pair-refusal .ensures) (c .if1 .taken) in
-    let kept = buffers-kept (lineIn (a .line)) (trainIn (a .train)) (a .speeds .now) (a .times .now) e (c .if1 .taken) in
+    let kept = buffers-kept (asLine (a .line)) (asTrain (a .train)) (a .speeds .now) (a .times .now) e (c .if1 .taken) in
     (e, (kept .0, (kept .1, λ z. absurd (c .if1 .taken z))))
 
 size-requires : tie.Need-size-requires
@@ -24,15 +24,15 @@ size-requires c κs = search needs
 returns-2 : tie.Need-returns-2
 returns-2 c =
     let a = c .before .before .before .before .before .before .args in
-    let e = short-speeds (lineIn (a .line)) (trainIn (a .train)) (length (a .speeds .now)) (length (a .times .now)) (sym (c .before .before .before .pair-refusal .ensures) ∙ c .before .before .if1 .left) (omega (arith, c .before .size .ensures .0)) in
-    let kept = buffers-kept (lineIn (a .line)) (trainIn (a .train)) (a .speeds .now) (a .times .now) e (λ z. omega arith) in
+    let e = short-speeds (asLine (a .line)) (asTrain (a .train)) (length (a .speeds .now)) (length (a .times .now)) (sym (c .before .before .before .pair-refusal .ensures) ∙ c .before .before .if1 .left) (omega (arith, c .before .size .ensures .0)) in
+    let kept = buffers-kept (asLine (a .line)) (asTrain (a .train)) (a .speeds .now) (a .times .now) e (λ z. omega arith) in
     (e, (kept .0, (kept .1, λ z. absurd (omega arith))))
 
 returns-3 : tie.Need-returns-3
 returns-3 c =
     let a = c .before .before .before .before .before .before .before .args in
-    let e = short-times (lineIn (a .line)) (trainIn (a .train)) (length (a .speeds .now)) (length (a .times .now)) (sym (c .before .before .before .before .pair-refusal .ensures) ∙ c .before .before .before .if1 .left) (omega (arith, c .before .before .size .ensures .0)) (omega (arith, c .before .before .size .ensures .0)) in
-    let kept = buffers-kept (lineIn (a .line)) (trainIn (a .train)) (a .speeds .now) (a .times .now) e (λ z. omega arith) in
+    let e = short-times (asLine (a .line)) (asTrain (a .train)) (length (a .speeds .now)) (length (a .times .now)) (sym (c .before .before .before .before .pair-refusal .ensures) ∙ c .before .before .before .if1 .left) (omega (arith, c .before .before .size .ensures .0)) (omega (arith, c .before .before .size .ensures .0)) in
+    let kept = buffers-kept (asLine (a .line)) (asTrain (a .train)) (a .speeds .now) (a .times .now) e (λ z. omega arith) in
     (e, (kept .0, (kept .1, λ z. absurd (omega arith))))
 
 write-run-requires : tie.Need-write-run-requires
@@ -49,8 +49,8 @@ same-length-2 c = search needs
 returns-4 : tie.Need-returns-4
 returns-4 c =
     let a = c .before .before .before .before .before .before .before .before .before .before .before .before .before .before .args in
-    let l = lineIn (a .line) in
-    let t = trainIn (a .train) in
+    let l = asLine (a .line) in
+    let t = asTrain (a .train) in
     let z = (sym (c .before .before .before .before .before .before .before .before .before .before .before .pair-refusal .ensures) ∙ c .before .before .before .before .before .before .before .before .before .before .if1 .left) in
     let e = long-enough l t (length (a .speeds .now)) (length (a .times .now)) z (omega (arith, c .before .before .before .before .before .before .before .before .before .size .ensures .0, c .before .before .before .before .before .before .before .before .if2 .left)) (omega (arith, c .before .before .before .before .before .before .before .before .before .size .ensures .0, c .before .before .before .before .before .before .before .if3 .left)) in
     let w = c .before .before .before .before .write-run .ensures in

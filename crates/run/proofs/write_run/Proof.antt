@@ -1,5 +1,5 @@
 use Prim.Native.Nat.{ℕ}
-use Rattle.line.specs.Values.{lineIn, trainIn}
+use Rattle.values.specs.Values.{asLine, asTrain}
 use mathlib.Core.Path.{_≡_}
 use mathlib.Core.List.{List, _++_}
 use lib.ListN.{drop}
@@ -13,12 +13,12 @@ use Rattle.run.proofs.write_run.Tie as tie
 
 -- the buffer after both sweeps
 abbrev Run : (a : tie.Start) → List ℕ → Type 0
-Run a s = s ≡ runRow (lineIn (a .args .line)) (trainIn (a .args .train)) ++ drop (a .args .line .points) (a .args .speeds .now)
+Run a s = s ≡ runRow (asLine (a .args .line)) (asTrain (a .args .train)) ++ drop (a .args .line .points) (a .args .speeds .now)
 
 run-done : (c : tie.After-write-backward) → Run (c .before .before .before .before .before .before .before .before .before .before .before) (c .write-backward .last .1 .1 .0)
 run-done c =
     let a = c .before .before .before .before .before .before .before .before .before .before .before in
-    sweeps-run (lineIn (a .args .line)) (trainIn (a .args .train)) (a .args .speeds .now) _ (c .before .before .before .before .before .before .before .write-forward .ensures) _
+    sweeps-run (asLine (a .args .line)) (asTrain (a .args .train)) (a .args .speeds .now) _ (c .before .before .before .before .before .before .before .write-forward .ensures) _
     (rw (c .before .before .size .ensures .0, c .before .before .before .narrow .ensures, c .before .before .before .before .braking-loss .ensures) at (c .write-backward .ensures))
 
 write-forward-requires : tie.Need-write-forward-requires

@@ -11,7 +11,7 @@ use Rattle.run.proofs.Limits.{IsUnder}
 use Rattle.run.proofs.Halts.{next-first, next-after}
 use Rattle.run.specs.Stops.{NextStop, stopHere}
 use lib.ListN.{length}
-use Rattle.line.specs.Values.{lineIn, trainIn}
+use Rattle.values.specs.Values.{asLine, asTrain}
 use Rattle.rules.proofs.Fill.{Filled, fill-none, fill-up, fill-done}
 use Rattle.rules.specs.Run.{forward}
 use mathlib.Core.Path.{_≡_, ap, _∙_}
@@ -23,8 +23,8 @@ use Rattle.run.proofs.forward.write_forward.Tie as tie
 
 abbrev Inv-loop : tie.InvT-loop
 Inv-loop line train speeds₀ points froms limits halts n top bands gains mosts lowest under₀ next₀ w₀ i₀ speeds under next w i =
-    (i ≤ points) × IsUnder (lineIn line) (trainCells (lineIn line) (trainIn train)) (lastTop (trainIn train)) i (under .head) (under .tail) (under .lowest)
-    × NextStop (trainIn train .stops) next i × Before (lineIn line) (trainIn train) i (w .0) × (w .0 ≤ 900000000) × Filled (forward (lineIn line) (trainIn train)) 0 i speeds₀ speeds
+    (i ≤ points) × IsUnder (asLine line) (trainCells (asLine line) (asTrain train)) (lastTop (asTrain train)) i (under .head) (under .tail) (under .lowest)
+    × NextStop (asTrain train .«stop_count») next i × Before (asLine line) (asTrain train) i (w .0) × (w .0 ≤ 900000000) × Filled (forward (asLine line) (asTrain train)) 0 i speeds₀ speeds
 
 abbrev μ-loop : tie.MeasureT-loop
 μ-loop line train speeds₀ points froms limits halts n top bands gains mosts lowest under₀ next₀ w₀ i₀ speeds under next w i = points - i
@@ -36,13 +36,13 @@ start c = c .before .before .before .before .before .before .before .before .bef
 on-line : (c : tie.In-loop Inv-loop μ-loop) → c .before .loop .i < start c .args .line .points
 on-line c = omega (arith, c .loop-test .taken, c .before .before .before .before .before .before .before .before .before .before .before .before .size .ensures .0)
 
-stopped-here : (c : tie.After-stop-here Inv-loop μ-loop) → c .stop-here .result ≡ stopHere (trainIn (start (c .before .before) .args .train) .stops) (length (trainIn (start (c .before .before) .args .train) .stops)) (c .before .before .before .loop .next) (c .before .before .before .loop .i)
+stopped-here : (c : tie.After-stop-here Inv-loop μ-loop) → c .stop-here .result ≡ stopHere (asTrain (start (c .before .before) .args .train) .stops) (length (asTrain (start (c .before .before) .args .train) .stops)) (c .before .before .before .loop .next) (c .before .before .before .loop .i)
 stopped-here c =
     let s = start (c .before .before) in
     let o = c .before .before .before .loop in
     c .stop-here .ensures ∙ stop-by-list (s .args .line) (s .args .train) (s .pre .0) (o .next) (o .i)
 
-cap-here : (c : tie.After-cap-of Inv-loop μ-loop) → c .cap-of .result .0 ≡ cap (lineIn (start (c .before .before .before) .args .line)) (trainIn (start (c .before .before .before) .args .train)) (c .before .before .before .before .loop .i)
+cap-here : (c : tie.After-cap-of Inv-loop μ-loop) → c .cap-of .result .0 ≡ cap (asLine (start (c .before .before .before) .args .line)) (asTrain (start (c .before .before .before) .args .train)) (c .before .before .before .before .loop .i)
 cap-here c =
     let s = start (c .before .before .before) in
     let o = c .before .before .before .before .loop in
@@ -84,7 +84,7 @@ capped-step-requires c κs =
     let s = start (c .before .before .before .before .before) in
     let b = c .before .before .before .before .before .before .before .before .before .before .before .bands-of .ensures in
     let m = last-most _ _ (s .pre .0) _ b in
-    ((bands-bounded _ _ (s .pre .0) _ b, c .before .before .before .before .before .before .loop .inv .4), (m .0, omega (arith, m .1, cap-here (c .before .before), cap-top (lineIn (s .args .line)) (trainIn (s .args .train)) (c .before .before .before .before .before .before .loop .i))))
+    ((bands-bounded _ _ (s .pre .0) _ b, c .before .before .before .before .before .before .loop .inv .4), (m .0, omega (arith, m .1, cap-here (c .before .before), cap-top (asLine (s .args .line)) (asTrain (s .args .train)) (c .before .before .before .before .before .before .loop .i))))
 
 mul-speeds : tie.Need-mul-speeds Inv-loop μ-loop
 mul-speeds c = omega (arith, c .before .before .before .before .before .before .loop-test .taken, c .before .before .before .before .before .before .before .before .before .before .before .before .before .before .before .before .before .before .size .ensures .1)

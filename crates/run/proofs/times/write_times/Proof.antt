@@ -6,7 +6,7 @@ use Rattle.rules.specs.Count.{entry}
 use Rattle.rules.specs.Run.{runRow}
 use Rattle.rules.specs.Time.{root}
 use Rattle.rules.proofs.Count.{length-row}
-use Rattle.line.specs.Values.{lineIn, trainIn}
+use Rattle.values.specs.Values.{asLine, asTrain}
 use Rattle.run.proofs.Arriving.{Arrived, arrived-first, arrived-next, arrived-last, roots-move, clock-most}
 use borrow.Author.Needs.{needs}
 use Rattle.run.proofs.times.write_times.Statement.{statement}
@@ -14,7 +14,7 @@ use Rattle.run.proofs.times.write_times.Tie as tie
 
 abbrev Inv-loop : tie.InvT-loop
 Inv-loop line speeds times₀ train last i₀ next₀ time₀ here₀ times i next time here =
-    Arrived (lineIn line) (trainIn train) times₀ i next time (here .0) times
+    Arrived (asLine line) (asTrain train) times₀ i next time (here .0) times
 
 abbrev μ-loop : tie.MeasureT-loop
 μ-loop line speeds times₀ train last i₀ next₀ time₀ here₀ times i next time here = last - i
@@ -26,7 +26,7 @@ start c = c .before .before .before .before .before .before .before
 ahead : (c : tie.In-loop Inv-loop μ-loop) → c .before .loop .i + 1 < start c .args .line .points
 ahead c = omega (arith, c .before .before .before .before .size .ensures .0)
 
-speed-ahead : (c : tie.In-loop Inv-loop μ-loop) → entry (start c .args .speeds .now) (c .before .loop .i + 1) ≡ entry (runRow (lineIn (start c .args .line)) (trainIn (start c .args .t2))) (c .before .loop .i + 1)
+speed-ahead : (c : tie.In-loop Inv-loop μ-loop) → entry (start c .args .speeds .now) (c .before .loop .i + 1) ≡ entry (runRow (asLine (start c .args .line)) (asTrain (start c .args .t2))) (c .before .loop .i + 1)
 speed-ahead c = start c .pre .1 .1 (c .before .loop .i + 1) (ahead c)
 
 -- the root at hand is that of this point's squared speed
