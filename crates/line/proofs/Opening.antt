@@ -136,6 +136,32 @@ module _ (file : List ℕ) (k : ℕ) where
           omega (arith, place, part-end file k (o .at) place f, ap (recordEnd file) place) in
           rw (eq-eqb (trainRefusal file k) 0 accepted, place, size)
 
+  -- what opening tells its callers
+  module _ {o : TrainAnswer} (e : o ≡ openedTrain file k) where
+    pub train-number : o .number ≡ trainRefusal file k
+    unfolding openedTrain
+    train-number = ap (λ (o : TrainAnswer). o .number) e ∙ go (eqb (trainRefusal file k) 0) refl
+      where
+        go : (b : Bool) → eqb (trainRefusal file k) 0 ≡ b → openedTrain file k .number ≡ trainRefusal file k
+        go true q = rw q (sym (eqb-true (trainRefusal file k) 0 q))
+        go false q = rw q
+
+    module _ (z : o .number ≡ 0) where
+      pub train-asked : trainRefusal file k ≡ 0
+      train-asked = sym train-number ∙ z
+
+      whole-train : o ≡ record { number = 0; line = decodedLine file; train = decodedTrain (drop (recordAt file k) file) }
+      unfolding openedTrain
+      whole-train = e ∙ rw (eq-eqb (trainRefusal file k) 0 train-asked)
+
+      pub opened-line : asLine (o .line) ≡ lineOf file
+      opened-line = ap (λ (o : TrainAnswer). asLine (o .line)) whole-train ∙ line-stands file (train-accepted file k train-asked .0)
+
+      pub opened-train : asTrain (o .train) ≡ trainOf file k
+      opened-train =
+          let (ok, there) = train-accepted file k train-asked in
+          ap (λ (o : TrainAnswer). asTrain (o .train)) whole-train ∙ train-stands file ok k there
+
   -- the part that is handed out
   module _ {p : RecordPlace} (e : p ≡ recordPlace file k) where
     pub part-handed : take (p .bytes) (drop (p .start) file) ≡ trainRecord file k

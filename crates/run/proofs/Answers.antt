@@ -16,14 +16,13 @@ use Rattle.rules.specs.Refusal.{rule, refusal, rulesOn, buffersLong}
 use Rattle.rules.specs.Calls.{written, trainRefusal, runRefusal, speedsAfter, timesAfter}
 use Rattle.rules.specs.Admitted.{Parallel, Admitted}
 use Rattle.rules.proofs.Count.{length-row}
-use Rattle.rules.proofs.Refusal.{refusal-none, refusal-cons, append-refused, append-kept, run-refused, run-by-buffers, train-accepted, admitted}
+use Rattle.rules.proofs.Refusal.{refusal-none, refusal-cons, append-refused, append-kept}
+use Rattle.rules.proofs.Accepted.{on-positive, on-kept, run-refused, run-by-buffers, train-accepted, admitted}
 use Rattle.rules.proofs.Calls.{run-leaves}
-use Rattle.rules.proofs.Pairs.{pair-rising, pair-kept}
 use Rattle.rules.proofs.Time.{fastest}
 use Rattle.values.specs.declared.decoded.Line as decodedLine
 use Rattle.values.specs.declared.decoded.Train as decodedTrain
 use Rattle.values.specs.Values.{asLine, asTrain}
-use Rattle.line.specs.Opened.{OpenPair, noLine, noTrain, openedTrain}
 use Rattle.run.specs.Calls.{runRefusalOn, speedsOn, timesOn}
 use Rattle.run.proofs.Rows.{written-row}
 
@@ -31,34 +30,34 @@ use Rattle.run.proofs.Rows.{written-row}
 pub decoded-parallel : (l : decodedLine.Line) (t : decodedTrain.Train) → Parallel (asLine l) (asTrain t)
 decoded-parallel l t =
     record {
-      limits = length-row _ (l .limits) ∙ sym (length-row _ (l .limits));
-      blocks = length-row _ (l .blocks) ∙ sym (length-row _ (l .blocks));
-      bands = length-row _ (t .bands) ∙ sym (length-row _ (t .bands));
-      stops = length-row _ (t .stops) ∙ sym (length-row _ (t .stops));
+      limits = length-row _ (l .«limit_count») ∙ sym (length-row _ (l .«limit_count»));
+      blocks = length-row _ (l .«block_count») ∙ sym (length-row _ (l .«block_count»));
+      bands = length-row _ (t .«band_count») ∙ sym (length-row _ (t .«band_count»));
+      stops = length-row _ (t .«stop_count») ∙ sym (length-row _ (t .«stop_count»));
     }
 
 module _ (l : Line) (t : Train) where
-  pub pair-refused : {r : ℕ} (ns nt : ℕ) → r ≡ refusal (rulesOn l t) → (r ≡ 0 → ⊥) → r ≡ runRefusalOn l t ns nt
+  pub refused-on : {r : ℕ} (ns nt : ℕ) → r ≡ refusal (rulesOn l t) → (r ≡ 0 → ⊥) → r ≡ runRefusalOn l t ns nt
   unfolding runRefusalOn
-  pair-refused ns nt e h = e ∙ sym (append-refused (rulesOn l t) (rule 11 (buffersLong l ns nt) ∷ []) (pair-rising l t) (λ z. h (e ∙ z)))
+  refused-on ns nt e h = e ∙ sym (append-refused (rulesOn l t) (rule 11 (buffersLong l ns nt) ∷ []) (on-positive l t) (λ z. h (e ∙ z)))
 
-  pub pair-by-buffers : (ns nt : ℕ) → refusal (rulesOn l t) ≡ 0 → runRefusalOn l t ns nt ≡ cond (buffersLong l ns nt) 0 11
+  pub by-buffers : (ns nt : ℕ) → refusal (rulesOn l t) ≡ 0 → runRefusalOn l t ns nt ≡ cond (buffersLong l ns nt) 0 11
   unfolding runRefusalOn
-  pair-by-buffers ns nt z =
-      append-kept (rulesOn l t) (rule 11 (buffersLong l ns nt) ∷ []) (pair-rising l t) z ∙ refusal-cons 11 (buffersLong l ns nt) [] ∙ rw refusal-none
+  by-buffers ns nt z =
+      append-kept (rulesOn l t) (rule 11 (buffersLong l ns nt) ∷ []) (on-positive l t) z ∙ refusal-cons 11 (buffersLong l ns nt) [] ∙ rw refusal-none
 
   module _ (ns nt : ℕ) (z : refusal (rulesOn l t) ≡ 0) where
     pub short-speeds : ns < l .points → 11 ≡ runRefusalOn l t ns nt
     unfolding buffersLong _and_
-    short-speeds h = sym (pair-by-buffers ns nt z ∙ rw (lt-leb (l .points) ns h))
+    short-speeds h = sym (by-buffers ns nt z ∙ rw (lt-leb (l .points) ns h))
 
     pub short-times : l .points ≤ ns → nt < l .points → 11 ≡ runRefusalOn l t ns nt
     unfolding buffersLong _and_
-    short-times g h = sym (pair-by-buffers ns nt z ∙ rw (le-leb (l .points) ns g, lt-leb (l .points) nt h))
+    short-times g h = sym (by-buffers ns nt z ∙ rw (le-leb (l .points) ns g, lt-leb (l .points) nt h))
 
     pub long-enough : l .points ≤ ns → l .points ≤ nt → 0 ≡ runRefusalOn l t ns nt
     unfolding buffersLong _and_
-    long-enough g h = sym (pair-by-buffers ns nt z ∙ rw (le-leb (l .points) ns g, le-leb (l .points) nt h))
+    long-enough g h = sym (by-buffers ns nt z ∙ rw (le-leb (l .points) ns g, le-leb (l .points) nt h))
 
   module _ (speeds times : List ℕ) where
     pub buffers-kept : {r : ℕ} → r ≡ runRefusalOn l t (length speeds) (length times) → (r ≡ 0 → ⊥) → (speeds ≡ speedsOn l t speeds times) × (times ≡ timesOn l t speeds times)
@@ -94,7 +93,7 @@ module _ (file : List ℕ) (k : ℕ) where
     of-file = let both = train-accepted file k z in admitted file (both .0) k (both .1)
 
     pub same-refusal : (ns nt : ℕ) → runRefusalOn (lineOf file) (trainOf file k) ns nt ≡ runRefusal file k ns nt
-    same-refusal ns nt = pair-by-buffers (lineOf file) (trainOf file k) ns nt (pair-kept _ _ of-file) ∙ sym (run-by-buffers file k ns nt z)
+    same-refusal ns nt = by-buffers (lineOf file) (trainOf file k) ns nt (on-kept _ _ of-file) ∙ sym (run-by-buffers file k ns nt z)
 
     pub same-buffers : (speeds times : List ℕ) →
         (speedsOn (lineOf file) (trainOf file k) speeds times ≡ speedsAfter file k speeds times) × (timesOn (lineOf file) (trainOf file k) speeds times ≡ timesAfter file k speeds times)
@@ -105,51 +104,29 @@ module _ (file : List ℕ) (k : ℕ) where
   unfolding lineOf
   points-are = refl
 
-  -- what opening a file and a train number gives
-  opened-number : openedTrain file k .number ≡ trainRefusal file k
-  unfolding openedTrain
-  opened-number = go (eqb (trainRefusal file k) 0) refl
-    where
-      go : (b : Bool) → eqb (trainRefusal file k) 0 ≡ b →
-          cond {A = OpenPair} b (record { number = 0; line = lineOf file; train = trainOf file k }) (record { number = trainRefusal file k; line = noLine; train = noTrain }) .number ≡ trainRefusal file k
-      go true e = sym (eqb-true _ 0 e)
-      go false e = refl
+  pub not-run :
+      (speeds times : List ℕ) {r : ℕ} → r ≡ trainRefusal file k → (r ≡ 0 → ⊥) →
+      (r ≡ runRefusal file k (length speeds) (length times)) × (speeds ≡ speedsAfter file k speeds times) × (times ≡ timesAfter file k speeds times)
+  not-run speeds times {r} e h =
+      let n : r ≡ runRefusal file k (length speeds) (length times) = e ∙ sym (run-refused file k (length speeds) (length times) (λ z. h (e ∙ z))) in
+      let kept = run-leaves file k speeds times (λ z. h (n ∙ z)) in
+      (n, sym (kept .0), sym (kept .1))
 
-  opened-pair : trainRefusal file k ≡ 0 → openedTrain file k ≡ record { number = 0; line = lineOf file; train = trainOf file k }
-  unfolding openedTrain
-  opened-pair z = rw (eq-eqb (trainRefusal file k) 0 z)
+  -- the line and the train that the code holds are those of the file
+  module _ {l : Line} {t : Train} (z : trainRefusal file k ≡ 0) (f : l ≡ lineOf file) (g : t ≡ trainOf file k) where
+    pub as-run :
+        (speeds times : List ℕ) {r : ℕ} {speeds′ times′ : List ℕ} →
+        r ≡ runRefusalOn l t (length speeds) (length times) → speeds′ ≡ speedsOn l t speeds times → times′ ≡ timesOn l t speeds times →
+        (r ≡ runRefusal file k (length speeds) (length times)) × (speeds′ ≡ speedsAfter file k speeds times) × (times′ ≡ timesAfter file k speeds times)
+    as-run speeds times {r} {speeds′} {times′} p q s =
+        let p′ : r ≡ runRefusalOn (lineOf file) (trainOf file k) (length speeds) (length times) = rw (f, g) at p in
+        let q′ : speeds′ ≡ speedsOn (lineOf file) (trainOf file k) speeds times = rw (f, g) at q in
+        let s′ : times′ ≡ timesOn (lineOf file) (trainOf file k) speeds times = rw (f, g) at s in
+        (p′ ∙ same-refusal z (length speeds) (length times), q′ ∙ same-buffers z speeds times .0, s′ ∙ same-buffers z speeds times .1)
 
-  module _ {o : OpenPair} (e : o ≡ openedTrain file k) where
-    number-is : o .number ≡ trainRefusal file k
-    number-is = ap (λ (p : OpenPair). p .number) e ∙ opened-number
-
-    pub not-run : (speeds times : List ℕ) → (o .number ≡ 0 → ⊥) →
-        (o .number ≡ runRefusal file k (length speeds) (length times)) × (speeds ≡ speedsAfter file k speeds times) × (times ≡ timesAfter file k speeds times)
-    not-run speeds times h =
-        let n : o .number ≡ runRefusal file k (length speeds) (length times) = number-is ∙ sym (run-refused file k (length speeds) (length times) (λ z. h (number-is ∙ z))) in
-        let kept = run-leaves file k speeds times (λ z. h (n ∙ z)) in
-        (n, sym (kept .0), sym (kept .1))
-
-    module _ (h : o .number ≡ 0) where
-      accepted : trainRefusal file k ≡ 0
-      accepted = sym number-is ∙ h
-
-      pub line-is : o .line ≡ lineOf file
-      line-is = ap (λ (p : OpenPair). p .line) (e ∙ opened-pair accepted)
-
-      pub train-is : o .train ≡ trainOf file k
-      train-is = ap (λ (p : OpenPair). p .train) (e ∙ opened-pair accepted)
-
-      pub as-run : (speeds times : List ℕ) {r : ℕ} {speeds′ times′ : List ℕ} →
-          r ≡ runRefusalOn (o .line) (o .train) (length speeds) (length times) → speeds′ ≡ speedsOn (o .line) (o .train) speeds times → times′ ≡ timesOn (o .line) (o .train) speeds times →
-          (r ≡ runRefusal file k (length speeds) (length times)) × (speeds′ ≡ speedsAfter file k speeds times) × (times′ ≡ timesAfter file k speeds times)
-      as-run speeds times {r} {speeds′} {times′} p q s =
-          let p′ : r ≡ runRefusalOn (lineOf file) (trainOf file k) (length speeds) (length times) = rw (line-is, train-is) at p in
-          let q′ : speeds′ ≡ speedsOn (lineOf file) (trainOf file k) speeds times = rw (line-is, train-is) at q in
-          let s′ : times′ ≡ timesOn (lineOf file) (trainOf file k) speeds times = rw (line-is, train-is) at s in
-          (p′ ∙ same-refusal accepted (length speeds) (length times), q′ ∙ same-buffers accepted speeds times .0, s′ ∙ same-buffers accepted speeds times .1)
-
-      pub as-fastest : (s m : List ℕ) → FastestRun (o .line) (o .train) (take (o .line .points) s) (take (o .line .points) m) → FastestRun (lineOf file) (trainOf file k) (take (pointCount file) s) (take (pointCount file) m)
-      as-fastest s m f =
-          let g : FastestRun (lineOf file) (trainOf file k) (take (lineOf file .points) s) (take (lineOf file .points) m) = rw (line-is, train-is) at f in
-          subst (λ (p : ℕ). FastestRun (lineOf file) (trainOf file k) (take p s) (take p m)) points-are g
+    pub as-fastest :
+        (s m : List ℕ) → FastestRun l t (take (l .points) s) (take (l .points) m) →
+        FastestRun (lineOf file) (trainOf file k) (take (pointCount file) s) (take (pointCount file) m)
+    as-fastest s m h =
+        let h′ : FastestRun (lineOf file) (trainOf file k) (take (lineOf file .points) s) (take (lineOf file .points) m) = rw (f, g) at h in
+        subst (λ (p : ℕ). FastestRun (lineOf file) (trainOf file k) (take p s) (take p m)) points-are h′

@@ -11,19 +11,19 @@ use Rattle.rules.specs.Calls.{written}
 use Rattle.rules.specs.Count.{entry}
 use Rattle.rules.specs.Line.{Line, Train}
 use Rattle.rules.specs.Run.{runRow}
-use Rattle.rules.specs.Time.{root, cellTime, arrival, arrivals, runTimes}
+use Rattle.rules.specs.Time.{root, cellTime, dwell, arrival, arrivals, runTimes}
 use Rattle.rules.proofs.Fill.{Filled, fill-none, fill-up}
 use Rattle.rules.proofs.Root.{root-least}
 use Rattle.rules.proofs.Run.{run-moves}
 use Rattle.rules.proofs.Time.{arrival-first, arrival-next, arrival-most, departure-is}
-use Rattle.run.specs.Stops.{NextStop, dwellBefore}
+use Rattle.stops.specs.Stops.{Behind}
 use Rattle.run.proofs.Rows.{fill-written}
-use Rattle.run.proofs.Halts.{next-first, dwell-before}
+use Rattle.stops.proofs.Passing.{behind-first}
 
 -- at the arrival at point i: the next stop, the time, the root of the squared speed, and the earlier arrivals in the buffer
 pub record Arrived (l : Line) (t : Train) (times₀ : List ℕ) (i next time here : ℕ) (times : List ℕ) : Type 0 where
   pub point : i < l .points
-  pub stop : NextStop (t .stops) next i
+  pub stop : Behind (t .stops) next i
   pub clock : time ≡ arrival l t (runRow l t) i
   pub speed : here ≡ root (entry (runRow l t) i)
   pub slow : here ≤ 65535
@@ -34,7 +34,7 @@ module _ (l : Line) (t : Train) (a : Admitted l t) where
   arrived-first {times} e f s =
       record {
         point = omega (arith, a .rule3Line .points-least);
-        stop = next-first (t .stops);
+        stop = behind-first (t .stops);
         clock = sym (arrival-first l t (runRow l t));
         speed = e ∙ ap root f;
         slow = s;
@@ -59,16 +59,16 @@ module _ (l : Line) (t : Train) (a : Admitted l t) where
         ⊎-elim (λ m. omega (arith, r .speed, root-least 1 {w = entry (runRow l t) i} (omega arith)))
         (λ m. omega (arith, there-is, root-least 1 {w = entry (runRow l t) (suc i)} (omega arith))) (run-moves l t a i (omega arith))
 
-    module _ {dwelt step cell : ℕ} (d : dwelt ≡ dwellBefore (t .stops) (t .dwells) i) (m : step ≡ l .step) (c : cell ≡ cellTime step here there) where
+    module _ {dwelt step cell : ℕ} (d : dwelt ≡ dwell l t i) (m : step ≡ l .step) (c : cell ≡ cellTime step here there) where
       clock-next : time + dwelt + cell ≡ arrival l t (runRow l t) (suc i)
       clock-next =
           let e : cell ≡ cellTime (l .step) (root (entry (runRow l t) i)) (root (entry (runRow l t) (suc i))) = cc (there-is, r .speed) in
-          omega (arith, e, r .clock, dwell-before l t i (omega arith), arrival-next l t (runRow l t) i, departure-is l t (runRow l t) i)
+          omega (arith, e, r .clock, arrival-next l t (runRow l t) i, departure-is l t (runRow l t) i)
 
       pub clock-most : time + dwelt + cell < 2 ^ 43
       clock-most = omega (arith, clock-next, arrival-most l t a (suc i) (omega arith))
 
-      pub arrived-next : {after : ℕ} → there ≤ 65535 → NextStop (t .stops) after (i + 1) → l .points ≤ length times₀ → Arrived l t times₀ (i + 1) after (time + dwelt + cell) there (set times i time)
+      pub arrived-next : {after : ℕ} → there ≤ 65535 → Behind (t .stops) after (i + 1) → l .points ≤ length times₀ → Arrived l t times₀ (i + 1) after (time + dwelt + cell) there (set times i time)
       arrived-next s n b =
           record {
             point = h;

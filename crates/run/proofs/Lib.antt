@@ -2,7 +2,6 @@ pub mod Compose
 pub mod Traction
 pub mod Lowest
 pub mod Limits
-pub mod Halts
 pub mod Sweeping
 pub mod Digits
 pub mod Rows

@@ -20,23 +20,23 @@ use Rattle.run.specs.Walk.{nextBegun}
 
 -- the next limit has begun, or not
 pub next-cases :
-    (P : ℕ → Type 0) (froms : List ℕ) (count at c : ℕ) → (at + 1 < count → entry froms (at + 1) ≤ c → P (at + 1)) →
-    ((at + 1 < count → c < entry froms (at + 1)) → P at) → P (nextBegun froms count at c)
+    (P : ℕ → Type 0) (points : List ℕ) (count at c : ℕ) → (at + 1 < count → entry points (at + 1) ≤ c → P (at + 1)) →
+    ((at + 1 < count → c < entry points (at + 1)) → P at) → P (nextBegun points count at c)
 unfolding nextBegun _and_
-next-cases P froms count at c yes-begun not-begun = go (ltb (at + 1) count) (leb (entry froms (at + 1)) c) refl refl
+next-cases P points count at c yes-begun not-begun = go (ltb (at + 1) count) (leb (entry points (at + 1)) c) refl refl
   where
-    go : (x y : Bool) → ltb (at + 1) count ≡ x → leb (entry froms (at + 1)) c ≡ y → P (cond (x and y) (at + 1) at)
+    go : (x y : Bool) → ltb (at + 1) count ≡ x → leb (entry points (at + 1)) c ≡ y → P (cond (x and y) (at + 1) at)
     go true true e f = yes-begun (ltb-true _ _ e) (leb-true _ _ f)
     go true false e f = not-begun (λ h. leb-false _ _ f)
     go false y e f = not-begun (λ h. absurd (omega (arith, ltb-false (at + 1) count e)))
 
-pub next-below : (froms : List ℕ) (count at c : ℕ) → at < count → nextBegun froms count at c < count
-next-below froms count at c h = next-cases (λ k. k < count) froms count at c (λ p q. p) (λ p. h)
+pub next-below : (points : List ℕ) (count at c : ℕ) → at < count → nextBegun points count at c < count
+next-below points count at c h = next-cases (λ k. k < count) points count at c (λ p q. p) (λ p. h)
 
 -- ---- limits in force
 
 -- the limits from `tail` to `head` hold in the cells that the train covers with its head at point i
-pub record IsUnder (l : Line) (n top i head tail lowest : ℕ) : Type 0 where
+pub record IsCovered (l : Line) (n top i head tail lowest : ℕ) : Type 0 where
   pub head-in : InForce l head (min i (l .points - 2))
   pub tail-in : InForce l tail (i - n)
   pub lowest-is : lowest ≡ lowestFrom (entry (l .limits)) top tail (head + 1 - tail)
@@ -66,11 +66,11 @@ module _ (l : Line) (t : Train) (a : Admitted l t) where
 
   -- from cell z on to y, one further at most. A limit begun at x has begun at y.
   step :
-      (froms : List ℕ) (count at x y z : ℕ) → count ≡ length (l .limitPoints) → ((k : ℕ) → k < count → entry froms k ≡ entry (l .limitPoints) k) →
+      (points : List ℕ) (count at x y z : ℕ) → count ≡ length (l .limitPoints) → ((k : ℕ) → k < count → entry points k ≡ entry (l .limitPoints) k) →
       InForce l at z → z ≤ y → y ≤ suc z → y ≤ x → ((k : ℕ) → k < count → entry (l .limitPoints) k ≤ x → entry (l .limitPoints) k ≤ y) →
-      InForce l (nextBegun froms count at x) y
-  step froms count at x y z e same f h m p q =
-      next-cases (λ k. InForce l k y) froms count at x
+      InForce l (nextBegun points count at x) y
+  step points count at x y z e same f h m p q =
+      next-cases (λ k. InForce l k y) points count at x
       (λ g b. record {
         there = omega arith;
         begun = q (at + 1) g (omega (arith, same (at + 1) g));
@@ -82,8 +82,8 @@ module _ (l : Line) (t : Train) (a : Admitted l t) where
         unended = λ u. let s : suc at ≡ at + 1 = omega arith in rw s (omega (arith, n (omega arith), same (at + 1) (omega arith)));
       })
 
-  pub under-first : (n top lowest : ℕ) → lowest ≡ lowestFrom (entry (l .limits)) top 0 1 → IsUnder l n top 0 0 0 lowest
-  under-first n top lowest q = record { head-in = zero-in (omega arith); tail-in = zero-in (omega arith); lowest-is = q }
+  pub covered-first : (n top lowest : ℕ) → lowest ≡ lowestFrom (entry (l .limits)) top 0 1 → IsCovered l n top 0 0 0 lowest
+  covered-first n top lowest q = record { head-in = zero-in (omega arith); tail-in = zero-in (omega arith); lowest-is = q }
     where
       zero-in : {c : ℕ} → c ≡ 0 → InForce l 0 c
       zero-in e =
@@ -93,15 +93,15 @@ module _ (l : Line) (t : Train) (a : Admitted l t) where
             unended = λ u. omega (arith, a .rule4 .rise 0 u);
           }
 
-  pub under-next :
-      (froms : List ℕ) (count n top i : ℕ) {head tail lowest head′ tail′ lowest′ : ℕ} → count ≡ length (l .limitPoints) →
-      ((k : ℕ) → k < count → entry froms k ≡ entry (l .limitPoints) k) → IsUnder l n top i head tail lowest →
-      head′ ≡ nextBegun froms count head (i + 1) → tail′ ≡ nextBegun froms count tail (i + 1 - n) →
-      lowest′ ≡ lowestFrom (entry (l .limits)) top tail′ (head′ + 1 - tail′) → IsUnder l n top (i + 1) head′ tail′ lowest′
-  under-next froms count n top i e same u p q r =
+  pub covered-next :
+      (points : List ℕ) (count n top i : ℕ) {head tail lowest head′ tail′ lowest′ : ℕ} → count ≡ length (l .limitPoints) →
+      ((k : ℕ) → k < count → entry points k ≡ entry (l .limitPoints) k) → IsCovered l n top i head tail lowest →
+      head′ ≡ nextBegun points count head (i + 1) → tail′ ≡ nextBegun points count tail (i + 1 - n) →
+      lowest′ ≡ lowestFrom (entry (l .limits)) top tail′ (head′ + 1 - tail′) → IsCovered l n top (i + 1) head′ tail′ lowest′
+  covered-next points count n top i e same u p q r =
       record {
-        head-in = rw p (step froms count _ (i + 1) (min (i + 1) (l .points - 2)) (min i (l .points - 2)) e same (u .head-in) (omega arith) (omega arith) (omega arith) (λ k g h. omega (arith, a .rule4 .limit-point-most k (omega arith))));
-        tail-in = rw q (step froms count _ (i + 1 - n) (i + 1 - n) (i - n) e same (u .tail-in) (omega arith) (omega arith) (omega arith) (λ k g h. h));
+        head-in = rw p (step points count _ (i + 1) (min (i + 1) (l .points - 2)) (min i (l .points - 2)) e same (u .head-in) (omega arith) (omega arith) (omega arith) (λ k g h. omega (arith, a .rule4 .limit-point-most k (omega arith))));
+        tail-in = rw q (step points count _ (i + 1 - n) (i + 1 - n) (i - n) e same (u .tail-in) (omega arith) (omega arith) (omega arith) (λ k g h. h));
         lowest-is = r;
       }
 
@@ -117,7 +117,7 @@ module _ (l : Line) (t : Train) (a : Admitted l t) where
   points-far : (j k : ℕ) → j ≤ k → k < length (l .limitPoints) → entry (l .limitPoints) j ≤ entry (l .limitPoints) k
   points-far = rises-far (entry (l .limitPoints)) (length (l .limitPoints)) (λ i q. omega (arith, a .rule4 .rise i q))
 
-  module _ {i head tail lowest : ℕ} (u : IsUnder l (trainCells l t) (lastTop t) i head tail lowest) (h : i < l .points) where
+  module _ {i head tail lowest : ℕ} (u : IsCovered l (trainCells l t) (lastTop t) i head tail lowest) (h : i < l .points) where
     -- each limit from the tail's to the head's holds in a cell that the train covers
     holds-somewhere : (k : ℕ) → tail ≤ k → k ≤ head → (c : ℕ) × Covers l t i c × InForce l k c
     holds-somewhere k p q = go (decLe k tail)
@@ -139,8 +139,8 @@ module _ (l : Line) (t : Train) (a : Admitted l t) where
         let (k, f) = limit-in-force l t a c in
         (k, in-order (u .tail-in) f (omega (arith, v .from-tail)), in-order f (u .head-in) (omega (arith, v .to-head, v .exists)), limit-is l t a k c f)
 
-    pub under-cap : lowest ≡ capSpeed l t i
-    under-cap =
+    pub covered-cap : lowest ≡ capSpeed l t i
+    covered-cap =
         let is : IsCapSpeed l t i (capSpeed l t i) = cap-speed-is l t i in
         let f : ℕ → ℕ = entry (l .limits) in
         let n : ℕ = head + 1 - tail in

@@ -1,28 +1,24 @@
 -- The forward sweep, one point after the other. Assumes nothing.
 use Prim.Native.Nat.{ℕ, zero, suc, _+_, _-_, _≤_, _<_, min}
-use mathlib.Core.Bool.{Bool, true, false, cond}
+use mathlib.Core.Bool.{Bool, cond}
 use mathlib.Core.Path.{_≡_, refl, sym, ap, _∙_}
 use native.Mathlib.Nat.{le-trans}
 use native.Mathlib.Omega.{arith}
-use lib.Dec.{ltb, eqb}
 use lib.ListN.{length}
-use borrow.Author.Tests.{ltb-true}
 use Rattle.rules.specs.Line.{Line, Train}
-use Rattle.rules.specs.Run.{squared, lastTop, capOf, cap, tractionStep, forwardSweep, forward, trainCells}
+use Rattle.rules.specs.Run.{squared, lastTop, listed, capOf, cap, tractionStep, forwardSweep, forward, trainCells}
 use Rattle.rules.specs.Admitted.{Admitted}
-use Rattle.rules.specs.Count.{_and_, entry, lowestFrom}
+use Rattle.rules.specs.Count.{entry, lowestFrom}
 use Rattle.rules.proofs.Count.{length-row, entry-row, lowest-le}
 use Rattle.rules.proofs.Step.{step-mono, step-keeps, squared-most, last-top-most}
 use Rattle.rules.proofs.Cap.{cap-top}
-use Rattle.run.specs.Stops.{NextStop, stopHere}
-use Rattle.run.proofs.Halts.{stop-is}
 use Rattle.values.specs.declared.decoded.Line as decodedLine
 use Rattle.values.specs.declared.decoded.Train as decodedTrain
 use Rattle.values.specs.Values.{asLine, asTrain}
-use Rattle.run.specs.declared.walk.Under.{Under}
+use Rattle.run.specs.declared.walk.Covered.{Covered}
 use Rattle.run.specs.Walk.{IsNext}
 use Rattle.run.proofs.Lowest.{lowest-agree}
-use Rattle.run.proofs.Limits.{IsUnder, next-below, under-first, under-next, under-cap}
+use Rattle.run.proofs.Limits.{IsCovered, next-below, covered-first, covered-next, covered-cap}
 
 -- w is the entry before point i; before point 0 it is above every cap
 pub record Before (l : Line) (t : Train) (i w : ℕ) : Type 0 where
@@ -50,14 +46,14 @@ module _ (l : Line) (t : Train) (a : Admitted l t) where
 
   -- the cap by the walk along the limits and the stops
   pub cap-at :
-      (i next : ℕ) {head tail lowest : ℕ} {b : Bool} {v : ℕ} → i < l .points → IsUnder l (trainCells l t) (lastTop t) i head tail lowest → NextStop (t .stops) next i →
-      b ≡ stopHere (t .stops) (length (t .stops)) next i → v ≡ cond b 0 (squared lowest) → v ≡ cap l t i
+      (i : ℕ) {head tail lowest : ℕ} {b : Bool} {v : ℕ} → i < l .points → IsCovered l (trainCells l t) (lastTop t) i head tail lowest →
+      b ≡ listed i (t .stops) → v ≡ cond b 0 (squared lowest) → v ≡ cap l t i
   unfolding cap capOf
-  cap-at i next h u p e q = q ∙ rw (e, stop-is (t .stops) (a .rule8 .apart) p, under-cap l t a u h)
+  cap-at i h u e q = q ∙ rw (e, covered-cap l t a u h)
 
   -- a cap speed is at most 300
-  pub under-most : {i head tail lowest : ℕ} → IsUnder l (trainCells l t) (lastTop t) i head tail lowest → lowest ≤ 300
-  under-most u = rw (u .lowest-is) (le-trans (lowest-le _ _ _ _) (last-top-most l t a))
+  pub covered-most : {i head tail lowest : ℕ} → IsCovered l (trainCells l t) (lastTop t) i head tail lowest → lowest ≤ 300
+  covered-most u = rw (u .lowest-is) (le-trans (lowest-le _ _ _ _) (last-top-most l t a))
 
 -- ---- the walk over a decoded line and train
 
@@ -79,34 +75,26 @@ module _ (line : decodedLine.Line) (train : decodedTrain.Train) (a : Admitted (a
   by-array : (top tail n : ℕ) → tail + n ≤ line .«limit_count» → lowestFrom (entry (l .limits)) top tail n ≡ lowestFrom (entry (line .limits)) top tail n
   by-array top tail n h = lowest-agree _ _ top tail n (λ k p q. entry-row (entry (line .limits)) (line .«limit_count») k (omega arith))
 
-  pub under-ready :
-      {n top i head tail lowest : ℕ} → IsUnder l n top i head tail lowest →
+  pub covered-ready :
+      {n top i head tail lowest : ℕ} → IsCovered l n top i head tail lowest →
       (head < line .«limit_count») × (tail < line .«limit_count») × (lowest ≡ lowestFrom (entry (line .limits)) top tail (head + 1 - tail))
-  under-ready {n} {top} {i} {head} {tail} u =
+  covered-ready {n} {top} {i} {head} {tail} u =
       let c = counts in
       let h : head < line .«limit_count» = omega (arith, u .head-in .there) in
       let m : tail < line .«limit_count» = omega (arith, u .tail-in .there) in
       (h, m, u .lowest-is ∙ by-array top tail (head + 1 - tail) (omega arith))
 
-  pub under-begun : (n top : ℕ) {lowest : ℕ} → lowest ≡ lowestFrom (entry (line .limits)) top 0 1 → IsUnder l n top 0 0 0 lowest
-  under-begun n top q = under-first l t a n top _ (q ∙ sym (by-array top 0 1 (omega (arith, counts .0))))
+  pub covered-begun : (n top : ℕ) {lowest : ℕ} → lowest ≡ lowestFrom (entry (line .limits)) top 0 1 → IsCovered l n top 0 0 0 lowest
+  covered-begun n top q = covered-first l t a n top _ (q ∙ sym (by-array top 0 1 (omega (arith, counts .0))))
 
-  pub under-on :
-      (n top i : ℕ) {u v : Under} → IsUnder l n top i (u .head) (u .tail) (u .lowest) →
-      IsNext (line .«limit_points») (line .limits) (line .«limit_count») top n (i + 1) u v → IsUnder l n top (i + 1) (v .head) (v .tail) (v .lowest)
-  under-on n top i {u} {v} w x =
+  pub covered-on :
+      {n top n′ top′ : ℕ} (i : ℕ) {u v : Covered} → IsCovered l n top i (u .head) (u .tail) (u .lowest) → n′ ≡ n → top′ ≡ top →
+      IsNext (line .«limit_points») (line .limits) (line .«limit_count») top′ n′ (i + 1) u v → IsCovered l n top (i + 1) (v .head) (v .tail) (v .lowest)
+  covered-on {n} {top} i {u} {v} w e f y =
+      let x : IsNext (line .«limit_points») (line .limits) (line .«limit_count») top n (i + 1) u v = rw (e, f) at y in
       let c = counts in
-      let r = under-ready w in
+      let r = covered-ready w in
       let h : v .head < line .«limit_count» = rw (x .head) (next-below (line .«limit_points») (line .«limit_count») (u .head) (i + 1) (r .0)) in
       let m : v .tail < line .«limit_count» = rw (x .tail) (next-below (line .«limit_points») (line .«limit_count») (u .tail) (i + 1 - n) (r .1)) in
-      under-next l t a (line .«limit_points») (line .«limit_count») n top i (c .3) (λ k g. sym (entry-row (entry (line .«limit_points»)) (line .«limit_count») k g)) w (x .head) (x .tail)
+      covered-next l t a (line .«limit_points») (line .«limit_count») n top i (c .3) (λ k g. sym (entry-row (entry (line .«limit_points»)) (line .«limit_count») k g)) w (x .head) (x .tail)
       (x .lowest ∙ sym (by-array top (v .tail) (v .head + 1 - v .tail) (omega arith)))
-
-  -- the stop ahead by the array and by the list
-  pub stop-by-list : (next i : ℕ) → stopHere (train .stops) (train .«stop_count») next i ≡ stopHere (t .stops) (length (t .stops)) next i
-  unfolding stopHere _and_
-  stop-by-list next i = rw length-row (go (ltb next (train .«stop_count»)) refl)
-    where
-      go : (b : Bool) → ltb next (train .«stop_count») ≡ b → (b and eqb (entry (train .stops) next) i) ≡ (b and eqb (entry (t .stops) next) i)
-      go true e = ap (λ x. eqb x i) (sym (entry-row (entry (train .stops)) (train .«stop_count») next (ltb-true _ _ e)))
-      go false e = refl

@@ -44,49 +44,49 @@ last-of-row f n h =
 -- ---- the bands in use of a decoded train
 
 module _ (l : Line) (t : decoded.Train) (a : Admitted l (asTrain t)) where
-  pub count-least : 1 ≤ t .bands
-  count-least = omega (arith, length-row (entry (t .tops)) (t .bands))
+  pub count-least : 1 ≤ t .«band_count»
+  count-least = omega (arith, length-row (entry (t .tops)) (t .«band_count»))
 
-  pub count-most : t .bands ≤ 8
-  count-most = omega (arith, length-row (entry (t .tops)) (t .bands))
+  pub count-most : t .«band_count» ≤ 8
+  count-most = omega (arith, length-row (entry (t .tops)) (t .«band_count»))
 
-  pub rate-most : (k : ℕ) → k < t .bands → entry (t .rates) k ≤ 200
+  pub rate-most : (k : ℕ) → k < t .«band_count» → entry (t .rates) k ≤ 200
   rate-most k h = rw entry-row at (a .rule7 .rate-most k (rw length-row h))
 
-  pub top-most : (k : ℕ) → k < t .bands → entry (t .tops) k ≤ 300
+  pub top-most : (k : ℕ) → k < t .«band_count» → entry (t .tops) k ≤ 300
   top-most k h = rw entry-row at (a .rule7 .top-most k (rw length-row h))
 
 -- ---- the traction step
 
 -- a cap at most w and the last band's most is at most the step from w
 pub cap-reached :
-    (count : ℕ) (gains mosts : List ℕ) (w c : ℕ) → 1 ≤ count → c ≤ w → c ≤ entry mosts (count - 1) →
-    c ≡ min c (greatestBelow count (λ k. min (w + entry gains k) (entry mosts k)))
-cap-reached count gains mosts w c h p q =
-    omega (arith, at-most-greatest count (λ k. min (w + entry gains k) (entry mosts k)) (count - 1) (omega arith))
+    (count : ℕ) (gains squares : List ℕ) (w c : ℕ) → 1 ≤ count → c ≤ w → c ≤ entry squares (count - 1) →
+    c ≡ min c (greatestBelow count (λ k. min (w + entry gains k) (entry squares k)))
+cap-reached count gains squares w c h p q =
+    omega (arith, at-most-greatest count (λ k. min (w + entry gains k) (entry squares k)) (count - 1) (omega arith))
 
 module _ (l : Line) (t : Train) (a : Admitted l t) (b : Bands) (h : IsBands l t b) where
-  pub bands-bounded : BandBounds (b .count) (b .gains) (b .mosts)
+  pub bands-bounded : BandBounds (b .count) (b .gains) (b .squares)
   bands-bounded =
       record {
         count-most = omega arith;
         gain-most = λ k m. rw (h .gain k m) (change-most (a .rule7 .rate-most k (omega arith)) (a .rule3Line .step-most));
-        most-most = λ k m. rw (h .most k m) (squared-most (a .rule7 .top-most k (omega arith)));
+        square-most = λ k m. rw (h .square k m) (squared-most (a .rule7 .top-most k (omega arith)));
       }
 
-  part-is : (w k : ℕ) → k < b .count → min (w + entry (b .gains) k) (entry (b .mosts) k) ≡ bandPart l t w k
+  part-is : (w k : ℕ) → k < b .count → min (w + entry (b .gains) k) (entry (b .squares) k) ≡ bandPart l t w k
   unfolding change squared
-  part-is w k m = rw (h .gain k m, h .most k m)
+  part-is w k m = rw (h .gain k m, h .square k m)
 
-  pub traction-is : (w : ℕ) → greatestBelow (b .count) (λ k. min (w + entry (b .gains) k) (entry (b .mosts) k)) ≡ tractionStep l t w
+  pub traction-is : (w : ℕ) → greatestBelow (b .count) (λ k. min (w + entry (b .gains) k) (entry (b .squares) k)) ≡ tractionStep l t w
   traction-is w =
-      let part : ℕ → ℕ = λ k. min (w + entry (b .gains) k) (entry (b .mosts) k) in
+      let part : ℕ → ℕ = λ k. min (w + entry (b .gains) k) (entry (b .squares) k) in
       let (k, m, e) = step-is l t a w .attained in
       le-antisymm (greatest-at-most (b .count) part (tractionStep l t w) (λ k m. omega (arith, part-is w k m, step-is l t a w .each k (omega arith))))
       (omega (arith, part-is w k (omega arith), at-most-greatest (b .count) part k (omega arith)))
 
   -- the last band's most is the square of 100 times its top
-  pub last-most : (1 ≤ b .count) × (entry (b .mosts) (b .count - 1) ≡ squared (lastTop t))
+  pub last-most : (1 ≤ b .count) × (entry (b .squares) (b .count - 1) ≡ squared (lastTop t))
   last-most =
       let n : 1 ≤ b .count = omega (arith, h .count) in
-      (n, h .most (b .count - 1) (omega arith) ∙ ap squared (rw (h .count) (sym (last-top l t a))))
+      (n, h .square (b .count - 1) (omega arith) ∙ ap squared (rw (h .count) (sym (last-top l t a))))

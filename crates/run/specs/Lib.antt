@@ -1,4 +1,3 @@
 pub mod Traction
 pub mod Walk
-pub mod Stops
 pub mod Calls

@@ -12,10 +12,10 @@ use Rattle.run.specs.declared.bands.Bands.{Bands}
 pub record IsBands (l : Line) (t : Train) (b : Bands) : Type 0 where
   pub count : b .count ≡ length (t .tops)
   pub gain : (k : ℕ) → k < b .count → entry (b .gains) k ≡ change (entry (t .rates) k) (l .step)
-  pub most : (k : ℕ) → k < b .count → entry (b .mosts) k ≡ squared (entry (t .tops) k)
+  pub square : (k : ℕ) → k < b .count → entry (b .squares) k ≡ squared (entry (t .tops) k)
 
 -- bounds that keep a traction step within 32 bits
-pub record BandBounds (count : ℕ) (gains mosts : List ℕ) : Type 0 where
+pub record BandBounds (count : ℕ) (gains squares : List ℕ) : Type 0 where
   pub count-most : count ≤ 8
   pub gain-most : (k : ℕ) → k < count → entry gains k ≤ 51840000
-  pub most-most : (k : ℕ) → k < count → entry mosts k ≤ 900000000
+  pub square-most : (k : ℕ) → k < count → entry squares k ≤ 900000000

@@ -5,13 +5,13 @@ use mathlib.Core.List.{List}
 use mathlib.Core.Path.{_≡_}
 use lib.Dec.{leb, ltb}
 use Rattle.rules.specs.Count.{_and_, entry, lowestFrom}
-use Rattle.run.specs.declared.walk.Under.{Under}
+use Rattle.run.specs.declared.walk.Covered.{Covered}
 
 -- the next limit where it has begun at cell c, else the same
 unfoldable pub nextBegun : List ℕ → ℕ → ℕ → ℕ → ℕ
-nextBegun froms count at c = cond (ltb (at + 1) count and leb (entry froms (at + 1)) c) (at + 1) at
+nextBegun points count at c = cond (ltb (at + 1) count and leb (entry points (at + 1)) c) (at + 1) at
 
-pub record IsNext (froms limits : List ℕ) (count top n i : ℕ) (before after : Under) : Type 0 where
-  pub head : after .head ≡ nextBegun froms count (before .head) i
-  pub tail : after .tail ≡ nextBegun froms count (before .tail) (i - n)
+pub record IsNext (points limits : List ℕ) (count top n i : ℕ) (before after : Covered) : Type 0 where
+  pub head : after .head ≡ nextBegun points count (before .head) i
+  pub tail : after .tail ≡ nextBegun points count (before .tail) (i - n)
   pub lowest : after .lowest ≡ lowestFrom (entry limits) top (after .tail) (after .head + 1 - after .tail)

@@ -3,8 +3,8 @@ use crate::numbers::change_over;
 use crate::numbers::greater;
 use crate::numbers::lesser;
 use crate::numbers::squared_of;
-use crate::speed::SquaredSpeed;
 use values::Line;
+use values::SquaredSpeed;
 use values::Train;
 use widths::wide;
 ghost use mathlib.Core.Path.{_≡_};
@@ -18,7 +18,7 @@ ghost use Rattle.run.specs.Traction.{IsBands, BandBounds};
 pub struct Bands {
     pub count: usize,
     pub gains: [u32; 8],
-    pub mosts: [u32; 8],
+    pub squares: [u32; 8],
 }
 
 pub(crate) fn bands_of(line: Line, train: Train) -> Bands
@@ -28,36 +28,37 @@ pub(crate) fn bands_of(line: Line, train: Train) -> Bands
     let step = wide(line.step);
     let count = train.band_count;
     let mut gains = [0u32; 8];
-    let mut mosts = [0u32; 8];
+    let mut squares = [0u32; 8];
     let mut k = 0;
     while k < count {
         gains[k] = change_over(wide(train.rates[k]), step);
-        let most = squared_of(wide(train.tops[k]));
-        mosts[k] = most.0;
+        let square = squared_of(wide(train.tops[k]));
+        squares[k] = square.0;
         k += 1;
     }
     Bands {
         count,
         gains,
-        mosts,
+        squares,
     }
 }
 
-// The traction step: the greatest of the bands' parts, each the lesser of w with the gain and the most.
+// The traction step: the greatest of the bands' parts, each the lesser of w with the gain and the square of the top.
 pub(crate) fn traction_step(
     count: usize,
     gains: &[u32; 8],
-    mosts: &[u32; 8],
+    squares: &[u32; 8],
     w: SquaredSpeed,
 ) -> SquaredSpeed
-    requires { ⌜ BandBounds count (now gains) (now mosts) × (w .0 ≤ 900000000) ⌝ }
-    ensures { λ r. ⌜ r .0 ≡ greatestBelow count (λ k. min (w .0 + entry (now (gains .entry)) k) (entry (now (mosts .entry)) k)) ⌝ }
+    requires { ⌜ BandBounds count (now gains) (now squares) × (w .0 ≤ 900000000) ⌝ }
+    ensures { λ r. ⌜ r .0 ≡ greatestBelow count (λ k. min (w .0 + entry (now (gains .entry)) k) (entry (now (squares .entry)) k)) ⌝ }
 {
-    let mut best: u32 = 0;
+    let mut best = SquaredSpeed(0);
     let mut k = 0;
     while k < count {
-        best = greater(best, lesser(w.0 + gains[k], mosts[k]));
+        let drawn = SquaredSpeed(w.0 + gains[k]);
+        best = greater(best, lesser(drawn, SquaredSpeed(squares[k])));
         k += 1;
     }
-    SquaredSpeed(best)
+    best
 }

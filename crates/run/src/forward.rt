@@ -3,14 +3,14 @@ use crate::bands::bands_of;
 use crate::bands::traction_step;
 use crate::numbers::lesser;
 use crate::numbers::squared_of;
-use crate::speed::SquaredSpeed;
-use crate::stops::after_point;
-use crate::stops::stop_here;
 use crate::sweep::last_top;
-use crate::walk::Under;
+use crate::walk::Covered;
+use crate::walk::covered_at;
 use crate::walk::lowest_limit;
-use crate::walk::under_at;
+use stops::stop_from;
+use stops::stop_here;
 use values::Line;
+use values::SquaredSpeed;
 use values::Train;
 use widths::size;
 ghost use mathlib.Core.Bool.{cond};
@@ -35,23 +35,23 @@ fn cap_of(stopped: bool, v: u32) -> SquaredSpeed
     squared_of(v)
 }
 
-// The lesser of the cap and the traction step from w. A cap at most w and the last band's most is at most the step.
+// The lesser of the cap and the traction step from w. A cap at most w and the square of the last top is at most the step.
 fn capped_step(
     count: usize,
     gains: &[u32; 8],
-    mosts: &[u32; 8],
+    squares: &[u32; 8],
     w: SquaredSpeed,
     cap: SquaredSpeed,
 ) -> SquaredSpeed
-    requires { ⌜ BandBounds count (now gains) (now mosts) × (w .0 ≤ 900000000) ⌝ }
-    requires { ⌜ (1 ≤ count) × (cap .0 ≤ entry (now mosts) (count - 1)) ⌝ }
-    ensures { λ r. ⌜ r .0 ≡ min (cap .0) (greatestBelow count (λ k. min (w .0 + entry (now (gains .entry)) k) (entry (now (mosts .entry)) k))) ⌝ }
+    requires { ⌜ BandBounds count (now gains) (now squares) × (w .0 ≤ 900000000) ⌝ }
+    requires { ⌜ (1 ≤ count) × (cap .0 ≤ entry (now squares) (count - 1)) ⌝ }
+    ensures { λ r. ⌜ r .0 ≡ min (cap .0) (greatestBelow count (λ k. min (w .0 + entry (now (gains .entry)) k) (entry (now (squares .entry)) k))) ⌝ }
 {
     if cap.0 <= w.0 {
         return cap;
     }
-    let step = traction_step(count, gains, mosts, w);
-    SquaredSpeed(lesser(cap.0, step.0))
+    let step = traction_step(count, gains, squares, w);
+    lesser(cap, step)
 }
 
 pub(crate) fn write_forward(line: Line, train: Train, speeds: &mut [u32])
@@ -62,14 +62,14 @@ pub(crate) fn write_forward(line: Line, train: Train, speeds: &mut [u32])
     let points = size(line.points);
     let limit_points = line.limit_points;
     let limits = line.limits;
-    let halts = train.stops;
+    let stop_points = train.stops;
     let n = values::train_cells(line, train);
     let top = last_top(train);
     let bands = bands_of(line, train);
     let gains = bands.gains;
-    let mosts = bands.mosts;
+    let squares = bands.squares;
     let lowest = lowest_limit(&limits, top, 0, 0);
-    let mut under = Under {
+    let mut covered = Covered {
         head: 0,
         tail: 0,
         lowest,
@@ -79,12 +79,12 @@ pub(crate) fn write_forward(line: Line, train: Train, speeds: &mut [u32])
     let mut w = SquaredSpeed(900000000);
     let mut i = 0;
     while i < points {
-        let stopped = stop_here(&halts, train.stop_count, next, i);
-        let cap = cap_of(stopped, under.lowest);
-        w = capped_step(bands.count, &gains, &mosts, w, cap);
+        next = stop_from(&stop_points, train.stop_count, next, i);
+        let stopped = stop_here(&stop_points, train.stop_count, next, i);
+        let cap = cap_of(stopped, covered.lowest);
+        w = capped_step(bands.count, &gains, &squares, w, cap);
         speeds[i] = w.0;
-        next = after_point(next, stopped);
         i += 1;
-        under = under_at(&limit_points, &limits, line.limit_count, top, n, i, under);
+        covered = covered_at(&limit_points, &limits, line.limit_count, top, n, i, covered);
     }
 }

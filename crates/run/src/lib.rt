@@ -3,8 +3,6 @@ mod bands;
 mod forward;
 mod numbers;
 mod root;
-mod speed;
-mod stops;
 mod sweep;
 mod times;
 mod walk;

@@ -1,5 +1,5 @@
-// Numbers narrowed, compared, and turned into squared speeds.
-use crate::speed::SquaredSpeed;
+// Numbers narrowed and compared, and squared speeds made of them.
+use values::SquaredSpeed;
 ghost use mathlib.Core.Path.{_≡_};
 ghost use Prim.Native.Nat.{_≤_, _<_, min, max};
 ghost use Rattle.rules.specs.Run.{squared, change};
@@ -11,16 +11,16 @@ pub(crate) fn narrow(x: u64) -> u32
     x as u32
 }
 
-pub(crate) fn lesser(a: u32, b: u32) -> u32
-    ensures { λ r. ⌜ r ≡ min a b ⌝ }
+pub(crate) fn lesser(a: SquaredSpeed, b: SquaredSpeed) -> SquaredSpeed
+    ensures { λ r. ⌜ r .0 ≡ min (a .0) (b .0) ⌝ }
 {
-    if a < b { a } else { b }
+    if a.0 < b.0 { a } else { b }
 }
 
-pub(crate) fn greater(a: u32, b: u32) -> u32
-    ensures { λ r. ⌜ r ≡ max a b ⌝ }
+pub(crate) fn greater(a: SquaredSpeed, b: SquaredSpeed) -> SquaredSpeed
+    ensures { λ r. ⌜ r .0 ≡ max (a .0) (b .0) ⌝ }
 {
-    if a < b { b } else { a }
+    if a.0 < b.0 { b } else { a }
 }
 
 // The square of 100 times a speed in km/h.

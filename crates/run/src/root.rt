@@ -1,6 +1,6 @@
 // The root: the only step from a squared speed to a speed.
-use crate::speed::Speed;
-use crate::speed::SquaredSpeed;
+use values::Speed;
+use values::SquaredSpeed;
 ghost use mathlib.Core.Path.{_≡_};
 ghost use Prim.Native.Nat.{_≤_};
 ghost use Rattle.rules.specs.Time.{root as rootOf};

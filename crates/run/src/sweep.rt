@@ -1,5 +1,6 @@
 // The backward sweep of a run, and the last band's top.
 use crate::numbers::lesser;
+use values::SquaredSpeed;
 use values::Train;
 use widths::wide;
 ghost use mathlib.Core.List.{_++_};
@@ -27,8 +28,9 @@ pub(crate) fn write_backward(points: usize, loss: u32, speeds: &mut [u32])
 {
     let mut i = points - 1;
     while 0 < i {
-        let most = speeds[i] + loss;
+        let most = SquaredSpeed(speeds[i] + loss);
         i -= 1;
-        speeds[i] = lesser(speeds[i], most);
+        let kept = lesser(SquaredSpeed(speeds[i]), most);
+        speeds[i] = kept.0;
     }
 }

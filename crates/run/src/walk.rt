@@ -1,15 +1,13 @@
-// The limits that a train is under, as its head and its tail pass along the line.
-use crate::numbers::lesser;
+// The limits that hold in the cells that a train covers, as its head and its tail pass along the line.
 use widths::size;
 use widths::wide;
 ghost use mathlib.Core.Path.{_≡_};
-ghost use Prim.Native.Nat.{_+_, _-_, _≤_, _<_};
+ghost use Prim.Native.Nat.{_+_, _-_, _≤_, _<_, min};
 ghost use Rattle.rules.specs.Count.{entry, lowestFrom};
 ghost use Rattle.run.specs.Walk.{nextBegun, IsNext};
 
-// The limits from the tail's to the head's hold in the cells that the train covers; `lowest` is the lowest of them and the last band's
-// top.
-pub struct Under {
+// The limits from the tail's to the head's; `lowest` is the lowest of them and the last band's top, in km/h.
+pub struct Covered {
     pub head: usize,
     pub tail: usize,
     pub lowest: u32,
@@ -36,6 +34,12 @@ fn next_begun(points: &[u16; 64], count: usize, at: usize, c: usize) -> usize
     at
 }
 
+fn lower(a: u32, b: u32) -> u32
+    ensures { λ r. ⌜ r ≡ min a b ⌝ }
+{
+    if a < b { a } else { b }
+}
+
 // The lowest of the top and the limits from `tail` to `head`.
 pub(crate) fn lowest_limit(limits: &[u16; 64], top: u32, tail: usize, head: usize) -> u32
     requires { ⌜ head < 64 ⌝ }
@@ -45,33 +49,33 @@ pub(crate) fn lowest_limit(limits: &[u16; 64], top: u32, tail: usize, head: usiz
     let mut left = less(head + 1, tail);
     while 0 < left {
         left -= 1;
-        lowest = lesser(wide(limits[tail + left]), lowest);
+        lowest = lower(wide(limits[tail + left]), lowest);
     }
     lowest
 }
 
-// The limits that the train is under with its head at point i, from those at the point before. `n` is its length in cells.
-pub(crate) fn under_at(
+// The limits that hold in the cells covered with the head at point i, from those at the point before. `n` is its length in cells.
+pub(crate) fn covered_at(
     points: &[u16; 64],
     limits: &[u16; 64],
     count: usize,
     top: u32,
     n: usize,
     i: usize,
-    under: Under,
-) -> Under
-    requires { ⌜ (under .head < count) × (under .tail < count) × (count ≤ 64) ⌝ }
-    requires { ⌜ under .lowest ≡ lowestFrom (entry (now limits)) top (under .tail) (under .head + 1 - under .tail) ⌝ }
-    ensures { λ r. ⌜ IsNext (now (points .entry)) (now (limits .entry)) count top n i under r ⌝ }
+    covered: Covered,
+) -> Covered
+    requires { ⌜ (covered .head < count) × (covered .tail < count) × (count ≤ 64) ⌝ }
+    requires { ⌜ covered .lowest ≡ lowestFrom (entry (now limits)) top (covered .tail) (covered .head + 1 - covered .tail) ⌝ }
+    ensures { λ r. ⌜ IsNext (now (points .entry)) (now (limits .entry)) count top n i covered r ⌝ }
 {
-    let head = next_begun(points, count, under.head, i);
-    let tail = next_begun(points, count, under.tail, less(i, n));
-    if head == under.head {
-        if tail == under.tail {
-            return under;
+    let head = next_begun(points, count, covered.head, i);
+    let tail = next_begun(points, count, covered.tail, less(i, n));
+    if head == covered.head {
+        if tail == covered.tail {
+            return covered;
         }
     }
-    Under {
+    Covered {
         head,
         tail,
         lowest: lowest_limit(limits, top, tail, head),

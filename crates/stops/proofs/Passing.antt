@@ -157,3 +157,27 @@ module _ (array : List ℕ) (count : ℕ) {s : ℕ} (h : s < min count 64) where
 
   pub used-at : entry (used array count) s ≡ entry array s
   used-at = entry-row (entry array) (min count 64) s h
+
+pub used-all : (array : List ℕ) {count : ℕ} → count ≤ 64 → used array count ≡ row (entry array) count
+used-all array h = ap (row (entry array)) (omega arith)
+
+-- at point i, where the code holds the first stop at i or later
+module _
+    (array : List ℕ) {count : ℕ} (m : count ≤ 64) (apart : Apart (row (entry array) count)) {s s′ i : ℕ} (b : Behind (row (entry array) count) s i)
+    (e : s′ ≡ stopFrom (used array count) s i) where
+  pub next-here : NextStop (row (entry array) count) s′ i
+  next-here = rw (e, used-all array m) (next-from (row (entry array) count) apart b)
+
+  pub here-listed : {stopped : Bool} → stopped ≡ stopHere (used array count) s′ i → stopped ≡ listed i (row (entry array) count)
+  here-listed {stopped} q =
+      let q′ : stopped ≡ stopHere (row (entry array) count) s′ i = rw (used-all array m) at q in
+      q′ ∙ stop-is (row (entry array) count) next-here apart
+
+  pub dwell-here :
+      (l : Line) (t : Train) (dwells : List ℕ) {d : ℕ} → row (entry array) count ≡ t .stops → row (entry dwells) count ≡ t .dwells → suc i < l .points →
+      d ≡ dwellHere (used array count) (used dwells count) s′ i → d ≡ dwell l t i
+  dwell-here l t dwells {d} p q h f =
+      let long : length (t .stops) ≡ length (t .dwells) =
+      ap length (sym p) ∙ length-row (entry array) count ∙ sym (length-row (entry dwells) count) ∙ ap length q in
+      let f′ : d ≡ dwellHere (row (entry array) count) (t .dwells) s′ i = rw (used-all array m, used-all dwells m, q) at f in
+      f′ ∙ dwell-is (row (entry array) count) next-here l t p apart long h

@@ -1,5 +1,5 @@
-use Rattle.run.proofs.Answers.{as-fastest}
-use Rattle.run.proofs.Answers.{not-run, as-run}
+use Rattle.line.proofs.Opening.{train-number, train-asked, opened-line, opened-train}
+use Rattle.run.proofs.Answers.{not-run, as-run, as-fastest}
 use borrow.Author.Needs.{needs}
 use Rattle.run.proofs.run.Statement.{statement}
 use Rattle.run.proofs.run.Tie as tie
@@ -10,7 +10,7 @@ open-train-requires c κs = search needs
 returns : tie.Need-returns
 returns c =
     let a = c .before .before .before .before .before .before .args in
-    let kept = not-run _ _ (c .before .before .open-train .ensures) (a .speeds .now) (a .times .now) (c .if1 .taken) in
+    let kept = not-run _ _ (a .speeds .now) (a .times .now) (train-number _ _ (c .before .before .open-train .ensures)) (c .if1 .taken) in
     (kept .0, (kept .1, (kept .2, λ z. absurd (c .if1 .taken z))))
 
 run-train-requires : tie.Need-run-train-requires
@@ -24,12 +24,17 @@ same-length-2 c = search needs
 
 returns-2 : tie.Need-returns-2
 returns-2 c =
-    let a = c .before .before .before .before .before .before .before .before .before .before .before .before .before .args in
-    let o = c .before .before .before .before .before .before .before .before .before .open-train .ensures in
-    let r = c .before .before .before .before .run-train .ensures in
-    let z = c .before .before .before .before .before .before .before .if1 .left in
-    let all = as-run _ _ o z (a .speeds .now) (a .times .now) (r .0) (r .1 .0) (r .1 .1 .0) in
-    (all .0, (all .1, (all .2, λ y. as-fastest _ _ o z _ _ (r .1 .1 .1 y))))
+    let ran = c .before .before .before .before in
+    let test = ran .before .before .before in
+    let opening = test .before .before in
+    let a = opening .before .before .before .before .args in
+    let o = opening .open-train .ensures in
+    let r = ran .run-train .ensures in
+    let z = train-asked _ _ o (test .if1 .left) in
+    let line = opened-line _ _ o (test .if1 .left) in
+    let train = opened-train _ _ o (test .if1 .left) in
+    let all = as-run _ _ z line train (a .speeds .now) (a .times .now) (r .0) (r .1 .0) (r .1 .1 .0) in
+    (all .0, (all .1, (all .2, λ y. as-fastest _ _ z line train _ _ (r .1 .1 .1 y))))
 
 pub run-spec : {M : Type 1} → statement M
 run-spec =

@@ -1,20 +1,20 @@
 use lib.ListN.{length}
 use Rattle.values.specs.Values.{asLine, asTrain}
 use mathlib.Core.Path.{sym, _∙_}
-use Rattle.rules.proofs.Pairs.{pair-admitted}
-use Rattle.run.proofs.Answers.{decoded-parallel, pair-refused, short-speeds, short-times, long-enough, buffers-kept, buffers-written, first-points}
+use Rattle.rules.proofs.Accepted.{on-admitted}
+use Rattle.run.proofs.Answers.{decoded-parallel, refused-on, short-speeds, short-times, long-enough, buffers-kept, buffers-written, first-points}
 use native.Mathlib.Omega.{arith}
 use borrow.Author.Needs.{needs}
 use Rattle.run.proofs.run_train.Statement.{statement}
 use Rattle.run.proofs.run_train.Tie as tie
 
-pair-refusal-requires : tie.Need-pair-refusal-requires
-pair-refusal-requires c κs = search needs
+refusal-on-requires : tie.Need-refusal-on-requires
+refusal-on-requires c κs = search needs
 
 returns : tie.Need-returns
 returns c =
     let a = c .before .before .before .before .args in
-    let e = pair-refused _ _ _ _ (c .before .pair-refusal .ensures) (c .if1 .taken) in
+    let e = refused-on _ _ _ _ (c .before .refusal-on .ensures) (c .if1 .taken) in
     let kept = buffers-kept (asLine (a .line)) (asTrain (a .train)) (a .speeds .now) (a .times .now) e (c .if1 .taken) in
     (e, (kept .0, (kept .1, λ z. absurd (c .if1 .taken z))))
 
@@ -24,21 +24,21 @@ size-requires c κs = search needs
 returns-2 : tie.Need-returns-2
 returns-2 c =
     let a = c .before .before .before .before .before .before .args in
-    let e = short-speeds (asLine (a .line)) (asTrain (a .train)) (length (a .speeds .now)) (length (a .times .now)) (sym (c .before .before .before .pair-refusal .ensures) ∙ c .before .before .if1 .left) (omega (arith, c .before .size .ensures .0)) in
+    let e = short-speeds (asLine (a .line)) (asTrain (a .train)) (length (a .speeds .now)) (length (a .times .now)) (sym (c .before .before .before .refusal-on .ensures) ∙ c .before .before .if1 .left) (omega (arith, c .before .size .ensures .0)) in
     let kept = buffers-kept (asLine (a .line)) (asTrain (a .train)) (a .speeds .now) (a .times .now) e (λ z. omega arith) in
     (e, (kept .0, (kept .1, λ z. absurd (omega arith))))
 
 returns-3 : tie.Need-returns-3
 returns-3 c =
     let a = c .before .before .before .before .before .before .before .args in
-    let e = short-times (asLine (a .line)) (asTrain (a .train)) (length (a .speeds .now)) (length (a .times .now)) (sym (c .before .before .before .before .pair-refusal .ensures) ∙ c .before .before .before .if1 .left) (omega (arith, c .before .before .size .ensures .0)) (omega (arith, c .before .before .size .ensures .0)) in
+    let e = short-times (asLine (a .line)) (asTrain (a .train)) (length (a .speeds .now)) (length (a .times .now)) (sym (c .before .before .before .before .refusal-on .ensures) ∙ c .before .before .before .if1 .left) (omega (arith, c .before .before .size .ensures .0)) (omega (arith, c .before .before .size .ensures .0)) in
     let kept = buffers-kept (asLine (a .line)) (asTrain (a .train)) (a .speeds .now) (a .times .now) e (λ z. omega arith) in
     (e, (kept .0, (kept .1, λ z. absurd (omega arith))))
 
 write-run-requires : tie.Need-write-run-requires
 write-run-requires c κs =
     let a = c .before .before .before .before .before .before .before .before .before .args in
-    (pair-admitted _ _ (sym (c .before .before .before .before .before .before .pair-refusal .ensures) ∙ c .before .before .before .before .before .if1 .left) (decoded-parallel (a .line) (a .train)), (omega (arith, c .before .before .before .before .size .ensures .0, c .before .before .before .if2 .left), omega (arith, c .before .before .before .before .size .ensures .0, c .before .before .if3 .left)))
+    (on-admitted _ _ (sym (c .before .before .before .before .before .before .refusal-on .ensures) ∙ c .before .before .before .before .before .if1 .left) (decoded-parallel (a .line) (a .train)), (omega (arith, c .before .before .before .before .size .ensures .0, c .before .before .before .if2 .left), omega (arith, c .before .before .before .before .size .ensures .0, c .before .before .if3 .left)))
 
 same-length : tie.Need-same-length
 same-length c = search needs
@@ -51,17 +51,17 @@ returns-4 c =
     let a = c .before .before .before .before .before .before .before .before .before .before .before .before .before .before .args in
     let l = asLine (a .line) in
     let t = asTrain (a .train) in
-    let z = (sym (c .before .before .before .before .before .before .before .before .before .before .before .pair-refusal .ensures) ∙ c .before .before .before .before .before .before .before .before .before .before .if1 .left) in
+    let z = (sym (c .before .before .before .before .before .before .before .before .before .before .before .refusal-on .ensures) ∙ c .before .before .before .before .before .before .before .before .before .before .if1 .left) in
     let e = long-enough l t (length (a .speeds .now)) (length (a .times .now)) z (omega (arith, c .before .before .before .before .before .before .before .before .before .size .ensures .0, c .before .before .before .before .before .before .before .before .if2 .left)) (omega (arith, c .before .before .before .before .before .before .before .before .before .size .ensures .0, c .before .before .before .before .before .before .before .if3 .left)) in
     let w = c .before .before .before .before .write-run .ensures in
     let kept = buffers-written l t (a .speeds .now) (a .times .now) e (w .0) (w .1) in
-    (e, (kept .0, (kept .1, λ y. first-points l t (pair-admitted _ _ z (decoded-parallel (a .line) (a .train))) (a .speeds .now) (a .times .now) (w .0) (w .1))))
+    (e, (kept .0, (kept .1, λ y. first-points l t (on-admitted _ _ z (decoded-parallel (a .line) (a .train))) (a .speeds .now) (a .times .now) (w .0) (w .1))))
 
 pub run-train-spec : {M : Type 1} → statement M
 run-train-spec =
     tie.close
     (tie.spec
-    pair-refusal-requires
+    refusal-on-requires
     returns
     size-requires
     returns-2

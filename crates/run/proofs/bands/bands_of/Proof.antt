@@ -12,11 +12,11 @@ use Rattle.run.proofs.bands.bands_of.Statement.{statement}
 use Rattle.run.proofs.bands.bands_of.Tie as tie
 
 abbrev Inv-loop : tie.InvT-loop
-Inv-loop train step count gains₀ mosts₀ k₀ gains mosts k =
-    (k ≤ count) × (count ≤ 8) × Filled (λ j. change (entry (train .rates) j) step) 0 k gains₀ gains × Filled (λ j. squared (entry (train .tops) j)) 0 k mosts₀ mosts
+Inv-loop train step count gains₀ mosts₀ k₀ gains squares k =
+    (k ≤ count) × (count ≤ 8) × Filled (λ j. change (entry (train .rates) j) step) 0 k gains₀ gains × Filled (λ j. squared (entry (train .tops) j)) 0 k mosts₀ squares
 
 abbrev μ-loop : tie.MeasureT-loop
-μ-loop train step count gains₀ mosts₀ k₀ gains mosts k = count - k
+μ-loop train step count gains₀ mosts₀ k₀ gains squares k = count - k
 
 wide-requires : tie.Need-wide-requires Inv-loop μ-loop
 wide-requires c κs = search needs
@@ -58,11 +58,11 @@ squared-of-requires c κs =
     let s = c .before .before .before .before .before .before .before .before in
     omega (arith, top-most _ (s .args .t2) (s .pre) (c .before .before .before .before .before .before .loop .k) (omega arith))
 
-mul-mosts : tie.Need-mul-mosts Inv-loop μ-loop
-mul-mosts c = search needs
+mul-squares : tie.Need-mul-squares Inv-loop μ-loop
+mul-squares c = search needs
 
-array-write-mosts : tie.Need-array-write-mosts Inv-loop μ-loop
-array-write-mosts c = search needs
+array-write-squares : tie.Need-array-write-squares Inv-loop μ-loop
+array-write-squares c = search needs
 
 add-k : tie.Need-add-k Inv-loop μ-loop
 add-k c = search needs
@@ -85,7 +85,7 @@ returns c =
     record {
       count = sym (length-row _ _);
       gain = λ k h. o .inv .2 .inside k (omega arith) (omega arith) ∙ ap₂ change (sym (entry-row _ _ k h)) (c .before .before .wide .ensures .0);
-      most = λ k h. o .inv .3 .inside k (omega arith) (omega arith) ∙ ap squared (sym (entry-row _ _ k h));
+      square = λ k h. o .inv .3 .inside k (omega arith) (omega arith) ∙ ap squared (sym (entry-row _ _ k h));
     }
 
 pub bands-of-spec : {M : Type 1} → statement M
@@ -106,8 +106,8 @@ bands-of-spec =
     element-copy-out-wide-2
     wide-requires-3
     squared-of-requires
-    mul-mosts
-    array-write-mosts
+    mul-squares
+    array-write-squares
     add-k
     loop-less
     loop-again

@@ -8,28 +8,30 @@ use Rattle.run.proofs.bands.traction_step.Statement.{statement}
 use Rattle.run.proofs.bands.traction_step.Tie as tie
 
 abbrev Inv-loop : tie.InvT-loop
-Inv-loop count gains mosts w best₀ k₀ best k = (k ≤ count) × (best ≡ greatestBelow k (λ k. min (w .0 + entry gains k) (entry mosts k)))
+Inv-loop count gains squares w best₀ k₀ best k = (k ≤ count) × (best .0 ≡ greatestBelow k (λ k. min (w .0 + entry gains k) (entry squares k)))
 
 abbrev μ-loop : tie.MeasureT-loop
-μ-loop count gains mosts w best₀ k₀ best k = count - k
+μ-loop count gains squares w best₀ k₀ best k = count - k
 
 loop-holds : tie.Need-loop-holds Inv-loop μ-loop
 loop-holds c = (search needs, greatest-none _)
 
-mul-lesser : tie.Need-mul-lesser Inv-loop μ-loop
-mul-lesser c = search needs
+mul-t9 : tie.Need-mul-t9 Inv-loop μ-loop
+mul-t9 c = search needs
 
-element-copy-out-lesser : tie.Need-element-copy-out-lesser Inv-loop μ-loop
-element-copy-out-lesser c = search needs
+element-copy-out-t12 : tie.Need-element-copy-out-t12 Inv-loop μ-loop
+element-copy-out-t12 c = search needs
 
-add-lesser : tie.Need-add-lesser Inv-loop μ-loop
-add-lesser c = omega (arith, c .before .before .before .before .pre .0 .gain-most (c .before .before .before .loop .k) (omega arith))
+add-t13 : tie.Need-add-t13 Inv-loop μ-loop
+add-t13 c =
+    let o = c .before .before .before .loop in
+    omega (arith, c .before .before .before .before .pre .0 .gain-most (o .k) (omega arith))
 
-mul-lesser-2 : tie.Need-mul-lesser-2 Inv-loop μ-loop
-mul-lesser-2 c = search needs
+mul-t9-2 : tie.Need-mul-t9-2 Inv-loop μ-loop
+mul-t9-2 c = search needs
 
-element-copy-out-lesser-2 : tie.Need-element-copy-out-lesser-2 Inv-loop μ-loop
-element-copy-out-lesser-2 c = search needs
+element-copy-out-t13 : tie.Need-element-copy-out-t13 Inv-loop μ-loop
+element-copy-out-t13 c = search needs
 
 lesser-requires : tie.Need-lesser-requires Inv-loop μ-loop
 lesser-requires c κs = search needs
@@ -44,10 +46,9 @@ loop-less : tie.Need-loop-less Inv-loop μ-loop
 loop-less c = search needs
 
 loop-again : tie.Need-loop-again Inv-loop μ-loop
-loop-again c = (
-  search needs,
-  greatest-more _ _ (c .before .before .before .before .before .before .loop .inv .1) (c .before .lesser .ensures) (c .greater .ensures),
-)
+loop-again c =
+    let o = c .before .before .before .before .before .before .loop in
+    (search needs, greatest-more _ _ (o .inv .1) (c .before .lesser .ensures) (c .greater .ensures))
 
 returns : tie.Need-returns Inv-loop μ-loop
 returns c =
@@ -61,11 +62,11 @@ traction-step-spec =
     Inv-loop
     μ-loop
     loop-holds
-    mul-lesser
-    element-copy-out-lesser
-    add-lesser
-    mul-lesser-2
-    element-copy-out-lesser-2
+    mul-t9
+    element-copy-out-t12
+    add-t13
+    mul-t9-2
+    element-copy-out-t13
     lesser-requires
     greater-requires
     add-k

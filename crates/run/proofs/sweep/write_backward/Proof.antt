@@ -21,14 +21,14 @@ sub-i c = search needs
 loop-holds : tie.Need-loop-holds Inv-loop μ-loop
 loop-holds c = (omega arith, fill-one (omega arith) (sym (backward-last _ _ _ _ (omega arith))))
 
-mul-most : tie.Need-mul-most Inv-loop μ-loop
-mul-most c = search needs
+mul-t8 : tie.Need-mul-t8 Inv-loop μ-loop
+mul-t8 c = search needs
 
-slice-read-most : tie.Need-slice-read-most Inv-loop μ-loop
-slice-read-most c = search needs
+slice-read-t10 : tie.Need-slice-read-t10 Inv-loop μ-loop
+slice-read-t10 c = search needs
 
-add-most : tie.Need-add-most Inv-loop μ-loop
-add-most c =
+add-t11 : tie.Need-add-t11 Inv-loop μ-loop
+add-t11 c =
     let a = c .before .before .before .before in
     let o = c .before .before .loop in
     omega (
@@ -41,11 +41,11 @@ add-most c =
 sub-i-2 : tie.Need-sub-i-2 Inv-loop μ-loop
 sub-i-2 c = search needs
 
-mul-lesser : tie.Need-mul-lesser Inv-loop μ-loop
-mul-lesser c = search needs
+mul-t8-2 : tie.Need-mul-t8-2 Inv-loop μ-loop
+mul-t8-2 c = search needs
 
-slice-read-lesser : tie.Need-slice-read-lesser Inv-loop μ-loop
-slice-read-lesser c = search needs
+slice-read-t11 : tie.Need-slice-read-t11 Inv-loop μ-loop
+slice-read-t11 c = search needs
 
 lesser-requires : tie.Need-lesser-requires Inv-loop μ-loop
 lesser-requires c κs = search needs
@@ -61,17 +61,17 @@ loop-less c = search needs
 
 loop-again : tie.Need-loop-again Inv-loop μ-loop
 loop-again c =
-    let a = c .before .before .before .before .before .before in
-    let o = c .before .before .before .before .loop in (
+    let o = c .before .before .before .before .loop in
+    let a = c .before .before .before .before .before .before in (
       omega arith,
       fill-down (o .inv .1) (omega arith) (omega arith) (omega arith)
-          (omega (
-            arith,
-            c .lesser .ensures,
-            o .inv .1 .under (o .i - 1) (omega arith),
-            o .inv .1 .inside (o .i) (omega arith) (omega arith),
-            backward-next (entry (a .args .speeds .now)) (a .args .loss) (a .args .points) (o .i - 1) (o .i) (omega arith) (omega arith),
-          )),
+      (omega (
+        arith,
+        c .lesser .ensures,
+        o .inv .1 .under (o .i - 1) (omega arith),
+        o .inv .1 .inside (o .i) (omega arith) (omega arith),
+        backward-next (entry (a .args .speeds .now)) (a .args .loss) (a .args .points) (o .i - 1) (o .i) (omega arith) (omega arith),
+      )),
     )
 
 same-length : tie.Need-same-length Inv-loop μ-loop
@@ -91,12 +91,12 @@ write-backward-spec =
     μ-loop
     sub-i
     loop-holds
-    mul-most
-    slice-read-most
-    add-most
+    mul-t8
+    slice-read-t10
+    add-t11
     sub-i-2
-    mul-lesser
-    slice-read-lesser
+    mul-t8-2
+    slice-read-t11
     lesser-requires
     mul-speeds
     slice-write-speeds

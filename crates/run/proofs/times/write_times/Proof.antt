@@ -4,34 +4,66 @@ use native.Mathlib.Omega.{arith}
 use lib.ListN.{length-set}
 use Rattle.rules.specs.Count.{entry}
 use Rattle.rules.specs.Run.{runRow}
-use Rattle.rules.specs.Time.{root}
+use Rattle.rules.specs.Time.{root, dwell}
 use Rattle.rules.proofs.Count.{length-row}
 use Rattle.values.specs.Values.{asLine, asTrain}
+use Rattle.stops.specs.Stops.{NextStop}
+use Rattle.stops.proofs.Passing.{next-here, dwell-here, behind-on}
 use Rattle.run.proofs.Arriving.{Arrived, arrived-first, arrived-next, arrived-last, roots-move, clock-most}
 use borrow.Author.Needs.{needs}
 use Rattle.run.proofs.times.write_times.Statement.{statement}
 use Rattle.run.proofs.times.write_times.Tie as tie
 
 abbrev Inv-loop : tie.InvT-loop
-Inv-loop line speeds times₀ train last i₀ next₀ time₀ here₀ times i next time here =
+Inv-loop line train speeds times₀ stop-points dwells last i₀ next₀ time₀ here₀ times i next time here =
     Arrived (asLine line) (asTrain train) times₀ i next time (here .0) times
 
 abbrev μ-loop : tie.MeasureT-loop
-μ-loop line speeds times₀ train last i₀ next₀ time₀ here₀ times i next time here = last - i
+μ-loop line train speeds times₀ stop-points dwells last i₀ next₀ time₀ here₀ times i next time here =
+    last - i
+
+abbrev in-loop : tie.After-dwell-at Inv-loop μ-loop → tie.In-loop Inv-loop μ-loop
+in-loop c = c .before .before .before .before .before
 
 abbrev start : tie.In-loop Inv-loop μ-loop → tie.Start Inv-loop μ-loop
-start c = c .before .before .before .before .before .before .before
+start c = c .before .before .before .before .before .before .before .before .before
 
 -- the point after this one is on the line, and its squared speed is the run's
 ahead : (c : tie.In-loop Inv-loop μ-loop) → c .before .loop .i + 1 < start c .args .line .points
 ahead c = omega (arith, c .before .before .before .before .size .ensures .0)
 
-speed-ahead : (c : tie.In-loop Inv-loop μ-loop) → entry (start c .args .speeds .now) (c .before .loop .i + 1) ≡ entry (runRow (asLine (start c .args .line)) (asTrain (start c .args .t2))) (c .before .loop .i + 1)
+speed-ahead :
+    (c : tie.In-loop Inv-loop μ-loop) →
+    entry (start c .args .speeds .now) (c .before .loop .i + 1) ≡
+    entry (runRow (asLine (start c .args .line)) (asTrain (start c .args .train))) (c .before .loop .i + 1)
 speed-ahead c = start c .pre .1 .1 (c .before .loop .i + 1) (ahead c)
 
 -- the root at hand is that of this point's squared speed
 root-here : (c : tie.In-loop Inv-loop μ-loop) → c .before .loop .here .0 ≡ root (entry (start c .args .speeds .now) (c .before .loop .i))
 root-here c = c .before .loop .inv .speed ∙ ap root (sym (start c .pre .1 .1 (c .before .loop .i) (omega (arith, ahead c))))
+
+-- the stops in use
+few : (c : tie.In-loop Inv-loop μ-loop) → start c .args .train .«stop_count» ≤ 64
+few c =
+    let n = length-row (entry (start c .args .train .stops)) (start c .args .train .«stop_count») in
+    omega (arith, start c .pre .0 .rule3Train .stops-most)
+
+-- the next stop, and the dwell at this point
+next-stop :
+    (c : tie.After-dwell-at Inv-loop μ-loop) →
+    NextStop (asTrain (start (in-loop c) .args .train) .stops) (c .before .before .before .stop-from .result) (in-loop c .before .loop .i)
+next-stop c =
+    let o = in-loop c in
+    next-here (start o .args .train .stops) (few o) (start o .pre .0 .rule8 .apart) (o .before .loop .inv .stop) (c .before .before .before .stop-from .ensures)
+
+dwelt :
+    (c : tie.After-dwell-at Inv-loop μ-loop) →
+    c .dwell-at .result ≡ dwell (asLine (start (in-loop c) .args .line)) (asTrain (start (in-loop c) .args .train)) (in-loop c .before .loop .i)
+dwelt c =
+    let o = in-loop c in
+    let train = start o .args .train in
+    dwell-here (train .stops) (few o) (start o .pre .0 .rule8 .apart) (o .before .loop .inv .stop) (c .before .before .before .stop-from .ensures)
+    (asLine (start o .args .line)) (asTrain train) (train .dwells) refl refl (omega (arith, ahead o)) (c .dwell-at .ensures)
 
 size-requires : tie.Need-size-requires Inv-loop μ-loop
 size-requires c κs = search needs
@@ -39,15 +71,15 @@ size-requires c κs = search needs
 sub-last : tie.Need-sub-last Inv-loop μ-loop
 sub-last c = search needs
 
-shared-slice-read-t15 : tie.Need-shared-slice-read-t15 Inv-loop μ-loop
-shared-slice-read-t15 c = search needs
+shared-slice-read-t16 : tie.Need-shared-slice-read-t16 Inv-loop μ-loop
+shared-slice-read-t16 c = search needs
 
 root-requires : tie.Need-root-requires Inv-loop μ-loop
 root-requires c κs = search needs
 
 loop-holds : tie.Need-loop-holds Inv-loop μ-loop
 loop-holds c =
-    let a = c .before .before .before .before .before in
+    let a = c .before .before .before .before .before .before .before in
     arrived-first _ _ (a .pre .0) (c .root .ensures .0) (a .pre .1 .1 0 (omega (arith, a .pre .0 .rule3Line .points-least))) (c .root .ensures .1)
 
 mul-times : tie.Need-mul-times Inv-loop μ-loop
@@ -56,57 +88,65 @@ mul-times c = search needs
 slice-write-times : tie.Need-slice-write-times Inv-loop μ-loop
 slice-write-times c = search needs
 
-pass-point-requires : tie.Need-pass-point-requires Inv-loop μ-loop
-pass-point-requires c κs =
-    let o = c .before .before .before in
-    let few : start o .args .t2 .stops ≤ 32 = rw length-row at (start o .pre .0 .rule3Train .stops-most) in
-    ((omega arith, start o .pre .0 .rule8 .apart), o .before .loop .inv .stop)
+stop-from-requires : tie.Need-stop-from-requires Inv-loop μ-loop
+stop-from-requires c κs = search needs
 
-mul-t18 : tie.Need-mul-t18 Inv-loop μ-loop
-mul-t18 c = search needs
+dwell-at-requires : tie.Need-dwell-at-requires Inv-loop μ-loop
+dwell-at-requires c κs = search needs
 
-shared-slice-read-t23 : tie.Need-shared-slice-read-t23 Inv-loop μ-loop
-shared-slice-read-t23 c = search needs
+mul-t19 : tie.Need-mul-t19 Inv-loop μ-loop
+mul-t19 c = search needs
 
-add-t25 : tie.Need-add-t25 Inv-loop μ-loop
-add-t25 c = search needs
+shared-slice-read-t25 : tie.Need-shared-slice-read-t25 Inv-loop μ-loop
+shared-slice-read-t25 c = search needs
 
-mul-t26 : tie.Need-mul-t26 Inv-loop μ-loop
-mul-t26 c = search needs
+add-t27 : tie.Need-add-t27 Inv-loop μ-loop
+add-t27 c = search needs
 
-shared-slice-read-t28 : tie.Need-shared-slice-read-t28 Inv-loop μ-loop
-shared-slice-read-t28 c = search needs
+mul-t28 : tie.Need-mul-t28 Inv-loop μ-loop
+mul-t28 c = search needs
+
+shared-slice-read-t30 : tie.Need-shared-slice-read-t30 Inv-loop μ-loop
+shared-slice-read-t30 c = search needs
 
 root-after-requires : tie.Need-root-after-requires Inv-loop μ-loop
 root-after-requires c κs =
-    let o = c .before .before .before .before .before .before in
+    let o = in-loop (c .before .before) in
     (root-here o, o .before .loop .inv .slow)
 
 add-time : tie.Need-add-time Inv-loop μ-loop
 add-time c =
-    let o = c .before .before .before .before .before .before .before .before in
-    omega (arith, clock-most _ _ (start o .pre .0) (o .before .loop .inv) (ahead o) (c .before .root-after .ensures .0) (speed-ahead o) (c .before .before .before .before .pass-point .ensures .0) refl refl)
+    let d = c .before .before .before in
+    let o = in-loop d in
+    omega (arith, clock-most _ _ (start o .pre .0) (o .before .loop .inv) (ahead o) (c .root-after .ensures .0) (speed-ahead o) (dwelt d) refl refl)
 
 wide64-requires : tie.Need-wide64-requires Inv-loop μ-loop
 wide64-requires c κs = search needs
 
 cell-time-requires : tie.Need-cell-time-requires Inv-loop μ-loop
 cell-time-requires c κs =
-    let o = c .before .before .before .before .before .before .before .before .before in
-    let r = c .before .before .root-after in
+    let r = c .before in
+    let o = in-loop (r .before .before .before) in
     omega (
       arith,
       start o .pre .0 .rule3Line .step-most,
       c .wide64 .ensures .0,
       o .before .loop .inv .slow,
-      r .ensures .1,
-      roots-move _ _ (start o .pre .0) (o .before .loop .inv) (ahead o) (r .ensures .0) (speed-ahead o),
+      r .root-after .ensures .1,
+      roots-move _ _ (start o .pre .0) (o .before .loop .inv) (ahead o) (r .root-after .ensures .0) (speed-ahead o),
     )
 
 add-time-2 : tie.Need-add-time-2 Inv-loop μ-loop
 add-time-2 c =
-    let o = c .before .before .before .before .before .before .before .before .before .before in
-    omega (arith, clock-most _ _ (start o .pre .0) (o .before .loop .inv) (ahead o) (c .before .before .before .root-after .ensures .0) (speed-ahead o) (c .before .before .before .before .before .before .pass-point .ensures .0) (c .before .wide64 .ensures .0) (c .cell-time .ensures))
+    let w = c .before in
+    let r = w .before in
+    let d = r .before .before .before in
+    let o = in-loop d in
+    omega (
+      arith,
+      clock-most _ _ (start o .pre .0) (o .before .loop .inv) (ahead o) (r .root-after .ensures .0) (speed-ahead o) (dwelt d) (w .wide64 .ensures .0)
+      (c .cell-time .ensures),
+    )
 
 add-i : tie.Need-add-i Inv-loop μ-loop
 add-i c = search needs
@@ -116,10 +156,12 @@ loop-less c = search needs
 
 loop-again : tie.Need-loop-again Inv-loop μ-loop
 loop-again c =
-    let o = c .before .before .before .before .before .before .before .before .before .before in
-    let r = c .before .before .before .root-after in
-    let p = c .before .before .before .before .before .before .pass-point in
-    arrived-next _ _ (start o .pre .0) (o .before .loop .inv) (ahead o) (r .ensures .0) (speed-ahead o) (p .ensures .0) (c .before .wide64 .ensures .0) (c .cell-time .ensures) (r .ensures .1) (p .ensures .1) (start o .pre .1 .0 .1)
+    let w = c .before in
+    let r = w .before in
+    let d = r .before .before .before in
+    let o = in-loop d in
+    arrived-next _ _ (start o .pre .0) (o .before .loop .inv) (ahead o) (r .root-after .ensures .0) (speed-ahead o) (dwelt d) (w .wide64 .ensures .0)
+    (c .cell-time .ensures) (r .root-after .ensures .1) (behind-on (next-stop d) (omega arith)) (start o .pre .1 .0 .1)
 
 mul-times-2 : tie.Need-mul-times-2 Inv-loop μ-loop
 mul-times-2 c = search needs
@@ -132,8 +174,9 @@ same-length c = simp length-set (c .before .loop .inv .filled .long)
 
 returns : tie.Need-returns Inv-loop μ-loop
 returns c =
-    let a = c .before .before .before .before .before .before .before in
-    arrived-last _ _ (a .pre .0) (c .before .loop .inv) (omega (arith, c .before .before .before .before .size .ensures .0)) (a .pre .1 .0 .1)
+    let s = c .before .before .before .before in
+    let a = s .before .before .before .before .before in
+    arrived-last _ _ (a .pre .0) (c .before .loop .inv) (omega (arith, s .size .ensures .0)) (a .pre .1 .0 .1)
 
 pub write-times-spec : {M : Type 1} → statement M
 write-times-spec =
@@ -143,17 +186,18 @@ write-times-spec =
     μ-loop
     size-requires
     sub-last
-    shared-slice-read-t15
+    shared-slice-read-t16
     root-requires
     loop-holds
     mul-times
     slice-write-times
-    pass-point-requires
-    mul-t18
-    shared-slice-read-t23
-    add-t25
-    mul-t26
-    shared-slice-read-t28
+    stop-from-requires
+    dwell-at-requires
+    mul-t19
+    shared-slice-read-t25
+    add-t27
+    mul-t28
+    shared-slice-read-t30
     root-after-requires
     add-time
     wide64-requires

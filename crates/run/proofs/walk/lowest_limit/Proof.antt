@@ -37,14 +37,14 @@ element-copy-out-wide c = search needs
 wide-requires : tie.Need-wide-requires Inv-loop μ-loop
 wide-requires c κs = search needs
 
-lesser-requires : tie.Need-lesser-requires Inv-loop μ-loop
-lesser-requires c κs = search needs
+lower-requires : tie.Need-lower-requires Inv-loop μ-loop
+lower-requires c κs = search needs
 
 loop-less : tie.Need-loop-less Inv-loop μ-loop
 loop-less c = search needs
 
 loop-again : tie.Need-loop-again Inv-loop μ-loop
-loop-again c = (omega arith, lowest-down _ _ _ _ _ (omega arith) (omega arith) (c .before .before .before .before .loop .inv .1) (c .before .wide .ensures .0) (c .lesser .ensures))
+loop-again c = (omega arith, lowest-down _ _ _ _ _ (omega arith) (omega arith) (c .before .before .before .before .loop .inv .1) (c .before .wide .ensures .0) (c .lower .ensures))
 
 returns : tie.Need-returns Inv-loop μ-loop
 returns c = lowest-all _ _ _ _ (omega arith) (c .before .loop .inv .1)
@@ -63,7 +63,7 @@ lowest-limit-spec =
     mul-wide
     element-copy-out-wide
     wide-requires
-    lesser-requires
+    lower-requires
     loop-less
     loop-again
     returns)

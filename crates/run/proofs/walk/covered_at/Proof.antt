@@ -4,8 +4,8 @@ use mathlib.Core.Path.{sym, ap, _∙_}
 use Rattle.run.specs.Walk.{nextBegun}
 use Rattle.run.proofs.Limits.{next-below}
 use borrow.Author.Needs.{needs}
-use Rattle.run.proofs.walk.under_at.Statement.{statement}
-use Rattle.run.proofs.walk.under_at.Tie as tie
+use Rattle.run.proofs.walk.covered_at.Statement.{statement}
+use Rattle.run.proofs.walk.covered_at.Tie as tie
 
 next-begun-requires : tie.Need-next-begun-requires
 next-begun-requires c κs = search needs
@@ -27,8 +27,8 @@ returns c =
 lowest-limit-requires : tie.Need-lowest-limit-requires
 lowest-limit-requires c κs =
     let a = c .before .before .before .before .before .args in
-    let p : a .under .head < a .count = c .before .before .before .before .before .pre .0 .0 in
-    omega (arith, next-below (a .froms .now) (a .count) (a .under .head) (a .i) p, c .before .before .before .before .next-begun .ensures)
+    let p : a .covered .head < a .count = c .before .before .before .before .before .pre .0 .0 in
+    omega (arith, next-below (a .points .now) (a .count) (a .covered .head) (a .i) p, c .before .before .before .before .next-begun .ensures)
 
 returns-2 : tie.Need-returns-2
 returns-2 c =
@@ -38,8 +38,8 @@ returns-2 c =
       lowest = c .lowest-limit .ensures;
     }
 
-pub under-at-spec : {M : Type 1} → statement M
-under-at-spec =
+pub covered-at-spec : {M : Type 1} → statement M
+covered-at-spec =
     tie.close
     (tie.spec
     next-begun-requires
