@@ -9,21 +9,20 @@ use lib.Dec.{eqb}
 use lib.ListN.{length}
 use borrow.Author.Tests.{eqb-true, eqb-false, eq-eqb, ne-eqb, leb-true}
 use Rattle.rules.specs.Count.{entry, row}
-use Rattle.rules.specs.Line.{Line, Train}
+use Rattle.rules.specs.Line.{Line, Train, lineOf, trainOf}
 use Rattle.rules.specs.Hold.{Hold, emptyHold, holdOf}
 use Rattle.rules.specs.Refusal.{refusal, rulesOn, buffersLong}
 use Rattle.rules.specs.Run.{runRow, runAt}
 use Rattle.rules.specs.Time.{arrival, arrivals, runTimes}
 use Rattle.rules.specs.Admitted.{Parallel, Admitted}
-use Rattle.rules.specs.Calls.{Holding, held, written, runRefusal}
+use Rattle.rules.specs.Calls.{HoldAnswer, held, written, trainRefusal, runRefusal}
 use Rattle.rules.specs.Meaning.{IsWritten}
 use Rattle.rules.proofs.Count.{and-left, and-right, length-row}
 use Rattle.rules.proofs.Calls.{written-is}
 use Rattle.rules.proofs.Written.{written-long}
-use Rattle.rules.proofs.Pairs.{pair-admitted}
-use Rattle.line.specs.Opened.{OpenPair, openedTrain}
+use Rattle.rules.proofs.Accepted.{on-admitted}
 use Rattle.run.specs.Calls.{runRefusalOn, speedsOn, timesOn}
-use Rattle.run.proofs.Answers.{pair-refused, pair-by-buffers, as-run, line-is, train-is}
+use Rattle.run.proofs.Answers.{refused-on, by-buffers, as-run}
 use Rattle.hold.specs.Calls.{heldOn}
 
 long-buffers : (l : Line) (ns nt : ℕ) → buffersLong l ns nt ≡ true → (l .points ≤ ns) × (l .points ≤ nt)
@@ -39,20 +38,20 @@ module _ (l : Line) (t : Train) (ns nt : ℕ) where
   unfolding heldOn
   held-accepted {r} e z q = rw (eq-eqb (runRefusalOn l t ns nt) 0 (sym e ∙ z), z, q)
 
-  -- an accepted pair keeps rules 3 to 9, and both buffers are long enough
-  pub pair-accepted : runRefusalOn l t ns nt ≡ 0 → (refusal (rulesOn l t) ≡ 0) × (l .points ≤ ns) × (l .points ≤ nt)
-  pair-accepted z = go (eqb (refusal (rulesOn l t)) 0) refl
+  -- an accepted train on a line keeps rules 3 to 9, and both buffers are long enough
+  pub accepted-on : runRefusalOn l t ns nt ≡ 0 → (refusal (rulesOn l t) ≡ 0) × (l .points ≤ ns) × (l .points ≤ nt)
+  accepted-on z = go (eqb (refusal (rulesOn l t)) 0) refl
     where
       both : refusal (rulesOn l t) ≡ 0 → (b : Bool) → buffersLong l ns nt ≡ b → buffersLong l ns nt ≡ true
       both k true e = e
-      both k false e = let y : runRefusalOn l t ns nt ≡ 11 = rw e at (pair-by-buffers l t ns nt k) in absurd (omega arith)
+      both k false e = let y : runRefusalOn l t ns nt ≡ 11 = rw e at (by-buffers l t ns nt k) in absurd (omega arith)
 
       go : (b : Bool) → eqb (refusal (rulesOn l t)) 0 ≡ b → (refusal (rulesOn l t) ≡ 0) × (l .points ≤ ns) × (l .points ≤ nt)
       go true e =
           let k = eqb-true _ 0 e in
           let long = long-buffers l ns nt (both k (buffersLong l ns nt) refl) in
           (k, long .0, long .1)
-      go false e = absurd (eqb-false _ 0 e (pair-refused l t ns nt refl (eqb-false _ 0 e) ∙ z))
+      go false e = absurd (eqb-false _ 0 e (refused-on l t ns nt refl (eqb-false _ 0 e) ∙ z))
 
 -- a buffer after the run has the row at its beginning
 module _ (f : ℕ → ℕ) (n : ℕ) (s : List ℕ) {s′ : List ℕ} (e : s′ ≡ written s 0 (row f n)) (h : n ≤ length s) where
@@ -71,10 +70,10 @@ module _ (l : Line) (t : Train) (same : Parallel l t) (speeds times : List ℕ) 
   unfolding speedsOn timesOn runRow arrivals
   run-done {r} {speeds′} {times′} e z p q =
       let n : runRefusalOn l t (length speeds) (length times) ≡ 0 = sym e ∙ z in
-      let ok = pair-accepted l t (length speeds) (length times) n in
+      let ok = accepted-on l t (length speeds) (length times) n in
       let s : speeds′ ≡ written speeds 0 (row (runAt l t) (l .points)) = rw (eq-eqb (runRefusalOn l t (length speeds) (length times)) 0 n) at p in
       let m : times′ ≡ written times 0 (row (arrival l t (row (runAt l t) (l .points))) (l .points)) = rw (eq-eqb (runRefusalOn l t (length speeds) (length times)) 0 n) at q in
-      (pair-admitted l t (ok .0) same, (rw (written-long speeds (row (runAt l t) (l .points)) s (rw length-row (ok .1))) (ok .1), rw (written-long times (row (arrival l t (row (runAt l t) (l .points))) (l .points)) m (rw length-row (ok .2))) (ok .2)), written-entries _ _ speeds s (ok .1), written-entries _ _ times m (ok .2))
+      (on-admitted l t (ok .0) same, (rw (written-long speeds (row (runAt l t) (l .points)) s (rw length-row (ok .1))) (ok .1), rw (written-long times (row (arrival l t (row (runAt l t) (l .points))) (l .points)) m (rw length-row (ok .2))) (ok .2)), written-entries _ _ speeds s (ok .1), written-entries _ _ times m (ok .2))
 
 -- ---- of a file
 
@@ -83,8 +82,11 @@ module _ (file : List ℕ) (k : ℕ) (speeds times : List ℕ) where
   unfolding held
   file-refused e n q = rw (ne-eqb (runRefusal file k (length speeds) (length times)) 0 (λ z. n (e ∙ z)), e, q)
 
-  pub file-held : {o : OpenPair} (e : o ≡ openedTrain file k) (h : o .number ≡ 0) {x : Holding} → x ≡ heldOn (o .line) (o .train) (length speeds) (length times) → x ≡ held file k (length speeds) (length times)
+  pub file-held :
+      {l : Line} {t : Train} {x : HoldAnswer} → trainRefusal file k ≡ 0 → l ≡ lineOf file → t ≡ trainOf file k →
+      x ≡ heldOn l t (length speeds) (length times) → x ≡ held file k (length speeds) (length times)
   unfolding heldOn held
-  file-held {o} e h p =
-      let n : runRefusalOn (o .line) (o .train) (length speeds) (length times) ≡ runRefusal file k (length speeds) (length times) = as-run file k e h speeds times refl refl refl .0 in
-      rw (n, line-is file k e h, train-is file k e h) at p
+  file-held {l} {t} z f g p =
+      let n : runRefusalOn l t (length speeds) (length times) ≡ runRefusal file k (length speeds) (length times) =
+      as-run file k z f g speeds times refl refl refl .0 in
+      p ∙ rw (n, f, g)

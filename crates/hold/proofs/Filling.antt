@@ -1,5 +1,5 @@
 -- A hold record filled block by block: the approach point and the next stop move forward with the blocks. Assumes nothing.
-use Prim.Native.Nat.{ℕ, suc, _+_, _-_, _*_, _^_, _≤_, _<_}
+use Prim.Native.Nat.{ℕ, suc, _+_, _-_, _*_, _^_, _≤_, _<_, min}
 use mathlib.Core.List.{List}
 use mathlib.Core.Path.{_≡_, sym, ap, ap₂, _∙_}
 use native.Mathlib.Nat.{mul-le-mul-left, le-refl, le-trans}
@@ -11,14 +11,14 @@ use Rattle.rules.specs.Count.{entry}
 use Rattle.rules.specs.Hold.{Hold, emptyHold, approachPoint, holdBegin, holdEnd, holdWith, holdOf}
 use Rattle.rules.specs.Line.{Line, Train}
 use Rattle.rules.specs.Run.{brakingLoss, trainCells, runRow}
-use Rattle.rules.specs.Time.{arrival, departure, runTimes}
+use Rattle.rules.specs.Time.{dwell, arrival, departure, runTimes}
 use Rattle.rules.proofs.Count.{rises-far}
-use Rattle.rules.proofs.Fill.{Filled, fill-none, fill-up}
-use Rattle.rules.proofs.Hold.{approach-is, approach-slow, approach-agree, places-filled, clears-within}
+use Rattle.rules.proofs.Fill.{Filled, fill-none, fill-up, fill-padded}
+use Rattle.rules.proofs.Hold.{approach-is, approach-slow, approach-agree, clears-within}
 use Rattle.rules.proofs.Run.{run-is}
 use Rattle.rules.proofs.Time.{departure-is, departs-before, arrival-most, entry-times}
-use Rattle.run.specs.Stops.{NextStop, dwellBefore}
-use Rattle.run.proofs.Halts.{dwell-before}
+use Rattle.stops.specs.Stops.{Behind, NextStop}
+use Rattle.stops.proofs.Passing.{behind-first}
 use Rattle.run.proofs.Traction.{loss-most}
 
 -- the record after the first j blocks
@@ -27,8 +27,7 @@ pub record Holds (l : Line) (t : Train) (h : Hold) (point next j : ℕ) : Type 0
   pub blocks : j ≤ length (l .blockStarts)
   pub before : (b : ℕ) → ((k : ℕ) → k < j → entry (l .blockStarts) k ≤ b) → point ≤ b
   pub slow : (b : ℕ) → ((k : ℕ) → k < j → entry (l .blockStarts) k ≤ b) → 0 < point → entry (runRow l t) point ≤ brakingLoss l t * (b - point)
-  pub stops : next ≤ length (t .stops)
-  pub passed : (k : ℕ) → k < next → entry (t .stops) k < point
+  pub behind : Behind (t .stops) next point
   pub begins : Filled (λ k. holdBegin l t (runRow l t) (entry (l .blockStarts) k)) 0 j (emptyHold .begins) (h .begins)
   pub ends : Filled (λ k. holdEnd l t (runRow l t) (entry (l .blockEnds) k)) 0 j (emptyHold .ends) (h .ends)
 
@@ -51,8 +50,7 @@ module _ (l : Line) (t : Train) (a : Admitted l t) where
         blocks = omega arith;
         before = λ b g. omega arith;
         slow = λ b g z. absurd (omega arith);
-        stops = omega arith;
-        passed = λ k g. absurd (omega arith);
+        behind = behind-first (t .stops);
         begins = rw (ap (λ (h : Hold). h .begins) e) (fill-none _ 0 _);
         ends = rw (ap (λ (h : Hold). h .ends) e) (fill-none _ 0 _);
       }
@@ -61,10 +59,8 @@ module _ (l : Line) (t : Train) (a : Admitted l t) where
   unfolding holdWith
   holds-all {h} {point} {next} {j} r m =
       let e : j ≡ length (l .blockStarts) = omega (arith, r .blocks) in
-      same-hold (r .count) (rw (sym e) (places-filled (r .begins) places zeros (few e))) (rw (sym e) (places-filled (r .ends) places zeros (few e)))
-    where
-      few : j ≡ length (l .blockStarts) → j ≤ 32
-      few e = omega (arith, a .rule3Line .blocks-most)
+      let most : j ≡ min (length (l .blockStarts)) 32 = omega (arith, a .rule3Line .blocks-most) in
+      same-hold (r .count) (fill-padded _ 32 (r .begins) most places zeros) (fill-padded _ 32 (r .ends) most places zeros)
 
   -- block starts rise
   starts-rise : {j : ℕ} → j < length (l .blockStarts) → (k : ℕ) → k < j → entry (l .blockStarts) k ≤ entry (l .blockStarts) j
@@ -99,19 +95,26 @@ module _ (l : Line) (t : Train) (a : Admitted l t) where
         point-on = on-line p (omega (arith, approach-is s loss b .at-most))
 
         -- with its arrivals in the buffer m
-        module _ (times : List ℕ) (timed : (k : ℕ) → k < l .points → entry times k ≡ entry (runTimes l t) k) {dwelt : ℕ} (d : dwelt ≡ dwellBefore (t .stops) (t .dwells) p) where
+        module _ (times : List ℕ) (timed : (k : ℕ) → k < l .points → entry times k ≡ entry (runTimes l t) k) {dwelt : ℕ} (d : dwelt ≡ dwell l t p) where
           pub begin-is : entry times p + dwelt ≡ holdBegin l t (runRow l t) (entry (l .blockStarts) j)
           unfolding holdBegin
           begin-is =
               let n = point-on in
               let w : entry times p + dwelt ≡ departure l t (runRow l t) p =
-              omega (arith, timed p (omega arith), entry-times l t p (omega arith), dwell-before l t p n, departure-is l t (runRow l t) p) in
+              omega (arith, timed p (omega arith), entry-times l t p (omega arith), departure-is l t (runRow l t) p) in
               w ∙ ap (departure l t (runRow l t)) point-is
 
           pub begin-most : entry times p + dwelt < 2 ^ 43
           begin-most =
               let n = point-on in
-              omega (arith, timed p (omega arith), entry-times l t p (omega arith), dwell-before l t p n, departure-is l t (runRow l t) p, departs-before l t (runRow l t) p (suc p) (omega arith), arrival-most l t a (suc p) n)
+              omega (
+                arith,
+                timed p (omega arith),
+                entry-times l t p (omega arith),
+                departure-is l t (runRow l t) p,
+                departs-before l t (runRow l t) p (suc p) (omega arith),
+                arrival-most l t a (suc p) n,
+              )
 
     -- the end of the hold
     module _ (times : List ℕ) (timed : (k : ℕ) → k < l .points → entry times k ≡ entry (runTimes l t) k) {e n : ℕ} (f : e ≡ entry (l .blockEnds) j) (g : n ≡ trainCells l t) where
@@ -138,8 +141,7 @@ module _ (l : Line) (t : Train) (a : Admitted l t) where
           blocks = omega arith;
           before = λ c g. omega (arith, reached, g j (omega arith));
           slow = λ c g z. le-trans (slow-at z) (mul-le-mul-left (brakingLoss l t) (omega (arith, g j (omega arith))));
-          stops = n .there;
-          passed = n .passed;
+          behind = n .behind;
           begins = fill-up (r .begins) (omega arith) (add-one j) (rw places (omega (arith, a .rule3Line .blocks-most))) b;
           ends = fill-up (r .ends) (omega arith) (add-one j) (rw places (omega (arith, a .rule3Line .blocks-most))) e;
         }

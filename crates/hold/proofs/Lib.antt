@@ -1,4 +1,3 @@
 pub mod Nearing
-pub mod Seeking
 pub mod Filling
 pub mod Answers

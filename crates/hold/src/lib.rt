@@ -1,13 +1,12 @@
 // The hold of a train: for each block when its hold begins and ends.
 mod approach;
-mod dwell;
 
 use approach::approach_point;
-use dwell::dwell_at;
-use dwell::stop_from;
+use holds::HoldRecord;
+use stops::dwell_at;
+use stops::stop_from;
 use values::Line;
 use values::Train;
-use sheet::HoldRecord;
 use widths::size;
 ghost use mathlib.Core.Path.{_≡_};
 ghost use Prim.Native.Nat.{ℕ, _+_, _*_, _<_, _≤_};
@@ -15,28 +14,19 @@ ghost use lib.ListN.{length};
 ghost use Rattle.rules.specs.Admitted.{Admitted};
 ghost use Rattle.rules.specs.Calls.{held, speedsAfter, timesAfter};
 ghost use Rattle.rules.specs.Count.{entry};
-ghost use Rattle.rules.specs.Hold.{emptyHold, holdOf};
+ghost use Rattle.rules.specs.Hold.{holdOf};
 ghost use Rattle.rules.specs.Run.{runRow};
 ghost use Rattle.rules.specs.Time.{runTimes};
 ghost use Rattle.values.specs.Values.{asLine, asTrain};
 ghost use Rattle.run.specs.Calls.{speedsOn, timesOn};
-ghost use Rattle.sheet.specs.Values.{asHold};
-ghost use Rattle.hold.specs.Calls.{asHolding, heldOn};
+ghost use Rattle.holds.specs.Values.{asHold};
+ghost use Rattle.hold.specs.Calls.{asHoldAnswer, heldOn};
 
 // The number 0 and the hold record, or the number of refusal and a record of no blocks.
+#[repr(C)]
 pub struct HoldAnswer {
     pub number: u64,
     pub hold: HoldRecord,
-}
-
-fn empty_record(blocks: u64) -> HoldRecord
-    ensures { λ r. ⌜ asHold r ≡ record { blocks = blocks; begins = emptyHold .begins; ends = emptyHold .ends } ⌝ }
-{
-    HoldRecord {
-        blocks,
-        begins: [0; 32],
-        ends: [0; 32],
-    }
 }
 
 // What a hold adds to the arrival that clears its block, in microseconds: release, set-up and 5 seconds of communication.
@@ -57,16 +47,21 @@ fn hold_record(line: Line, train: Train, speeds: &[u32], times: &[u64]) -> HoldR
     let loss = values::braking_loss(line, train);
     let cells = values::train_cells(line, train);
     let clearing = clearing_time(line);
-    let mut hold = empty_record(line.block_count as u64);
+    let starts = line.block_starts;
+    let ends = line.block_ends;
+    let stop_points = train.stops;
+    let dwells = train.dwells;
+    let mut hold = HoldRecord::NONE;
+    hold.blocks = line.block_count as u64;
     let mut point = 0;
     let mut next = 0;
     let mut j = 0;
     while j < line.block_count {
-        point = approach_point(speeds, loss, point, size(line.block_starts[j]));
-        next = stop_from(&train.stops, train.stop_count, next, point);
-        let dwell = dwell_at(&train.stops, &train.dwells, train.stop_count, next, point);
+        point = approach_point(speeds, loss, point, size(starts[j]));
+        next = stop_from(&stop_points, train.stop_count, next, point);
+        let dwell = dwell_at(&stop_points, &dwells, train.stop_count, next, point);
         hold.begins[j] = times[point] + dwell;
-        hold.ends[j] = times[size(line.block_ends[j]) + cells] + clearing;
+        hold.ends[j] = times[size(ends[j]) + cells] + clearing;
         j += 1;
     }
     hold
@@ -74,7 +69,7 @@ fn hold_record(line: Line, train: Train, speeds: &[u32], times: &[u64]) -> HoldR
 
 // The hold of a decoded train on a decoded line: rules 3 to 9 and 11, whatever the two hold. The buffers end as after `run::run_train`.
 pub fn hold_train(line: Line, train: Train, speeds: &mut [u32], times: &mut [u64]) -> HoldAnswer
-    ensures answer { λ r. ⌜ asHolding r ≡ heldOn (asLine line) (asTrain train) (length (now (speeds .entry))) (length (now (times .entry))) ⌝ }
+    ensures answer { λ r. ⌜ asHoldAnswer r ≡ heldOn (asLine line) (asTrain train) (length (now (speeds .entry))) (length (now (times .entry))) ⌝ }
     ensures speeds { λ r. ⌜ now (speeds .exit) ≡ speedsOn (asLine line) (asTrain train) (now (speeds .entry)) (now (times .entry)) ⌝ }
     ensures times { λ r. ⌜ now (times .exit) ≡ timesOn (asLine line) (asTrain train) (now (speeds .entry)) (now (times .entry)) ⌝ }
 {
@@ -82,7 +77,7 @@ pub fn hold_train(line: Line, train: Train, speeds: &mut [u32], times: &mut [u64
     if number != 0 {
         return HoldAnswer {
             number,
-            hold: empty_record(0),
+            hold: HoldRecord::NONE,
         };
     }
     HoldAnswer {
@@ -93,7 +88,7 @@ pub fn hold_train(line: Line, train: Train, speeds: &mut [u32], times: &mut [u64
 
 // The hold call: rules 1 to 11 for train k of a file. The buffers end as after the run call.
 pub fn hold(file: &[u8], k: u64, speeds: &mut [u32], times: &mut [u64]) -> HoldAnswer
-    ensures answer { λ r. ⌜ asHolding r ≡ held (now (file .entry)) k (length (now (speeds .entry))) (length (now (times .entry))) ⌝ }
+    ensures answer { λ r. ⌜ asHoldAnswer r ≡ held (now (file .entry)) k (length (now (speeds .entry))) (length (now (times .entry))) ⌝ }
     ensures speeds { λ r. ⌜ now (speeds .exit) ≡ speedsAfter (now (file .entry)) k (now (speeds .entry)) (now (times .entry)) ⌝ }
     ensures times { λ r. ⌜ now (times .exit) ≡ timesAfter (now (file .entry)) k (now (speeds .entry)) (now (times .entry)) ⌝ }
 {
@@ -101,7 +96,7 @@ pub fn hold(file: &[u8], k: u64, speeds: &mut [u32], times: &mut [u64]) -> HoldA
     if opened.number != 0 {
         return HoldAnswer {
             number: opened.number,
-            hold: empty_record(0),
+            hold: HoldRecord::NONE,
         };
     }
     hold_train(opened.line, opened.train, speeds, times)

@@ -1,6 +1,6 @@
 use Rattle.hold.proofs.Answers.{held-refused, held-accepted, run-done}
 use Rattle.run.proofs.Answers.{decoded-parallel}
-use Rattle.hold.proofs.Answers.{held-refused, held-accepted}
+use mathlib.Core.Path.{refl}
 use native.Mathlib.Omega.{arith}
 use borrow.Author.Needs.{needs}
 use Rattle.hold.proofs.hold_train.Statement.{statement}
@@ -8,9 +8,6 @@ use Rattle.hold.proofs.hold_train.Tie as tie
 
 run-train-requires : tie.Need-run-train-requires
 run-train-requires c κs = search needs
-
-empty-record-requires : tie.Need-empty-record-requires
-empty-record-requires c κs = search needs
 
 same-length : tie.Need-same-length
 same-length c = search needs
@@ -20,8 +17,8 @@ same-length-2 c = search needs
 
 returns : tie.Need-returns
 returns c =
-    let r = c .before .before .before .before .before .before .run-train .ensures in
-    (held-refused _ _ _ _ (r .0) (c .before .if1 .taken) (c .empty-record .ensures), (r .1 .0, r .1 .1 .0))
+    let r = c .before .before .before .before .before .run-train .ensures in
+    (held-refused _ _ _ _ (r .0) (c .if1 .taken) refl, (r .1 .0, r .1 .1 .0))
 
 hold-record-requires : tie.Need-hold-record-requires
 hold-record-requires c κs =
@@ -46,7 +43,6 @@ hold-train-spec =
     tie.close
     (tie.spec
     run-train-requires
-    empty-record-requires
     same-length
     same-length-2
     returns
