@@ -1,18 +1,13 @@
 -- What the declared types stand for in the rules: the same numbers and lists, and for each case of an answer its number and values.
-use Rattle.rules.specs.Hold as holds
 use Rattle.rules.specs.Sheet as sheets
 use Rattle.rules.specs.Calls as calls
-use Rattle.sheet.specs.declared.HoldRecord.{HoldRecord}
 use Rattle.sheet.specs.declared.Sheet.{Sheet}
 use Rattle.sheet.specs.declared.Answer.{Answer}
 use Rattle.sheet.specs.declared.Answer.the-variants as answers
 use Rattle.sheet.specs.declared.Addition.{Addition}
-use Rattle.sheet.specs.declared.Opened.{Opened}
+use Rattle.sheet.specs.declared.Opening.{Opening}
 use Rattle.sheet.specs.declared.HeadwayAnswer.{HeadwayAnswer}
 use Rattle.sheet.specs.declared.HeadwayAnswer.the-variants as headways
-
-abbrev pub asHold : HoldRecord → holds.Hold
-asHold h = record { blocks = h .blocks; begins = h .begins; ends = h .ends }
 
 abbrev pub asSheet : Sheet → sheets.Sheet
 asSheet s = record { blocks = s .blocks; trains = s .trains; free = s .free }
@@ -28,9 +23,9 @@ answered r s = record { answer = asAnswer r; sheet = asSheet s }
 abbrev pub asAddition : Addition → calls.Addition
 asAddition r = answered (r .answer) (r .sheet)
 
-abbrev pub asOpening : Opened → calls.Opening
+abbrev pub asOpening : Opening → calls.Opening
 asOpening r = record { number = r .number; sheet = asSheet (r .sheet) }
 
-abbrev pub asHeadway : HeadwayAnswer → calls.Headway
-asHeadway (headways.Headway time) = calls.headwayOf time
-asHeadway (headways.Refused number) = calls.noHeadway number
+abbrev pub asHeadwayAnswer : HeadwayAnswer → calls.HeadwayAnswer
+asHeadwayAnswer (headways.Headway time) = calls.headwayOf time
+asHeadwayAnswer (headways.Refused number) = calls.noHeadway number

@@ -1,11 +1,12 @@
 // The sheet after an addition.
-use crate::HoldRecord;
 use crate::Sheet;
+use holds::HoldRecord;
 ghost use mathlib.Core.Path.{_≡_};
 ghost use Prim.Native.Nat.{_+_, _*_, _^_, _≤_};
 ghost use Rattle.rules.specs.Sheet.{sheetAfter};
 ghost use Rattle.rules.specs.Admitted.{Rule12, Rule14};
-ghost use Rattle.sheet.specs.Values.{asHold, asSheet};
+ghost use Rattle.holds.specs.Values.{asHold};
+ghost use Rattle.sheet.specs.Values.{asSheet};
 
 // When a block is free again after a train with this start.
 fn free_again(start: u64, end: u64) -> u64

@@ -1,12 +1,13 @@
 // The block named for a start.
-use crate::HoldRecord;
 use crate::Sheet;
+use holds::HoldRecord;
 ghost use mathlib.Core.Path.{_≡_};
 ghost use Prim.Native.Nat.{_+_};
 ghost use lib.Dec.{eqb};
 ghost use Rattle.rules.specs.Sheet.{blockNamed};
 ghost use Rattle.rules.specs.Admitted.{Rule12};
-ghost use Rattle.sheet.specs.Values.{asHold, asSheet};
+ghost use Rattle.holds.specs.Values.{asHold};
+ghost use Rattle.sheet.specs.Values.{asSheet};
 
 // Start plus beginning equals the free time. No sum is formed, since it may not fit.
 fn binds(start: u64, begin: u64, free: u64) -> bool

@@ -6,25 +6,16 @@ mod start;
 
 use after::sheet_after;
 use block::block_named;
-use refusal::MOST_TRAINS;
+use holds::HoldRecord;
+use refusal::adding_refusal;
 use refusal::count_kept;
-use refusal::hold_kept;
-use refusal::refusal_number;
-use refusal::refused;
-use refusal::sheet_kept;
 use start::least_start;
 ghost use mathlib.Core.Path.{_≡_};
 ghost use Rattle.rules.specs.Calls as rules;
 ghost use Rattle.rules.specs.Sheet as sheets;
 ghost use Rattle.rules.specs.Demand.{ThirdDemand};
-ghost use Rattle.sheet.specs.Values.{asHold, asSheet, answered, asAddition, asOpening, asHeadway};
-
-#[repr(C)]
-pub struct HoldRecord {
-    pub blocks: u64,
-    pub begins: [u64; 32],
-    pub ends: [u64; 32],
-}
+ghost use Rattle.holds.specs.Values.{asHold};
+ghost use Rattle.sheet.specs.Values.{asSheet, answered, asAddition, asOpening, asHeadwayAnswer};
 
 #[repr(C)]
 pub struct Sheet {
@@ -46,7 +37,7 @@ pub struct Addition {
 }
 
 // The number 0 and a fresh sheet, or the number of refusal and a sheet of no blocks.
-pub struct Opened {
+pub struct Opening {
     pub number: u64,
     pub sheet: Sheet,
 }
@@ -58,17 +49,17 @@ pub enum HeadwayAnswer {
 }
 
 // Opens a sheet. Every list of adding calls from it meets the third demand.
-pub fn open_sheet(blocks: u64) -> Opened
+pub fn open_sheet(blocks: u64) -> Opening
     ensures sheet { λ r. ⌜ asOpening r ≡ rules.opened blocks ⌝ }
     ensures demand { λ r. ⌜ (r .number ≡ 0 → ThirdDemand blocks (asSheet (r .sheet))) ⌝ }
 {
     if !count_kept(blocks) {
-        return Opened {
+        return Opening {
             number: 12,
             sheet: fresh(0),
         };
     }
-    Opened {
+    Opening {
         number: 0,
         sheet: fresh(blocks),
     }
@@ -88,16 +79,12 @@ fn fresh(blocks: u64) -> Sheet
 pub fn with_hold(sheet: Sheet, hold: HoldRecord) -> Addition
     ensures { λ r. ⌜ asAddition r ≡ rules.added (asSheet sheet) (asHold hold) ⌝ }
 {
-    let blocks = sheet.blocks;
-    let trains = sheet.trains;
-    if !sheet_kept(sheet) {
-        return refused(sheet, 12);
-    }
-    if trains == MOST_TRAINS {
-        return refused(sheet, 13);
-    }
-    if !hold_kept(blocks, hold) {
-        return refused(sheet, 14);
+    let number = adding_refusal(sheet, hold);
+    if number != 0 {
+        return Addition {
+            answer: Answer::Refused(number),
+            sheet,
+        };
     }
     let start = least_start(sheet, hold);
     let block = block_named(sheet, hold, start);
@@ -120,22 +107,29 @@ pub fn add(sheet: &mut Sheet, hold: HoldRecord) -> Answer
 
 // The second train's start on a sheet of these two.
 pub fn headway(first: HoldRecord, second: HoldRecord) -> HeadwayAnswer
-    ensures { λ r. ⌜ asHeadway r ≡ rules.headway (asHold first) (asHold second) ⌝ }
+    ensures { λ r. ⌜ asHeadwayAnswer r ≡ rules.headway (asHold first) (asHold second) ⌝ }
 {
     let blocks = first.blocks;
-    let opened = open_sheet(blocks);
-    if opened.number != 0 {
-        return HeadwayAnswer::Refused(opened.number);
+    let opening = open_sheet(blocks);
+    if opening.number != 0 {
+        return HeadwayAnswer::Refused(opening.number);
     }
-    let one = with_hold(opened.sheet, first);
-    let earlier = one.answer;
-    let Answer::Accepted { start: _, block: _ } = earlier else {
-        return HeadwayAnswer::Refused(refusal_number(earlier));
-    };
-    let two = with_hold(one.sheet, second);
-    let later = two.answer;
-    let Answer::Accepted { start, block: _ } = later else {
-        return HeadwayAnswer::Refused(refusal_number(later));
-    };
-    HeadwayAnswer::Headway(start)
+    let one = with_hold(opening.sheet, first);
+    let answer = one.answer;
+    match answer {
+        Answer::Accepted { start: _, block: _ } => start_on(one.sheet, second),
+        Answer::Refused(number) => HeadwayAnswer::Refused(number),
+    }
+}
+
+// The start on this sheet, or the number of refusal.
+fn start_on(sheet: Sheet, hold: HoldRecord) -> HeadwayAnswer
+    ensures { λ r. ⌜ asHeadwayAnswer r ≡ rules.startOrRefusal (rules.added (asSheet sheet) (asHold hold) .answer) ⌝ }
+{
+    let done = with_hold(sheet, hold);
+    let answer = done.answer;
+    match answer {
+        Answer::Accepted { start, block: _ } => HeadwayAnswer::Headway(start),
+        Answer::Refused(number) => HeadwayAnswer::Refused(number),
+    }
 }

@@ -1,20 +1,17 @@
-// Rules 12 and 14, as tests that pass where the rule is kept, and what a refusal gives back.
-use crate::Addition;
-use crate::Answer;
-use crate::HoldRecord;
+// Rules 12 to 14: tests that pass where a rule is kept, and the number of refusal.
 use crate::Sheet;
+use holds::HoldRecord;
 ghost use mathlib.Core.Path.{_≡_};
 ghost use Prim.Native.Nat.{_≤_};
 ghost use lib.Dec.{leb, ltb};
 ghost use Rattle.rules.specs.Count.{entry, every};
-ghost use Rattle.rules.specs.Refusal.{orZero, countRule, sheetRule, holdRule};
-ghost use Rattle.rules.specs.Calls.{refuse};
-ghost use Rattle.rules.specs.Demand.{refusalOf};
-ghost use Rattle.sheet.specs.Values.{asHold, asSheet, asAnswer, asAddition};
+ghost use Rattle.rules.specs.Refusal.{refusal, countRule, sheetRule, holdRule, addingRules};
+ghost use Rattle.holds.specs.Values.{asHold};
+ghost use Rattle.sheet.specs.Values.{asSheet};
 
 const MOST_BLOCKS: u64 = 32;
 
-pub(crate) const MOST_TRAINS: u64 = 64;
+const MOST_TRAINS: u64 = 64;
 
 // 2^44 microseconds.
 const LATEST_END: u64 = 17592186044416;
@@ -63,7 +60,7 @@ pub(crate) fn count_kept(blocks: u64) -> bool
 }
 
 // Rule 12 of a sheet.
-pub(crate) fn sheet_kept(sheet: Sheet) -> bool
+fn sheet_kept(sheet: Sheet) -> bool
     ensures { λ r. ⌜ r ≡ sheetRule (asSheet sheet) ⌝ }
 {
     let blocks = sheet.blocks;
@@ -79,7 +76,7 @@ pub(crate) fn sheet_kept(sheet: Sheet) -> bool
 }
 
 // Rule 14, by the sheet's block count.
-pub(crate) fn hold_kept(blocks: u64, hold: HoldRecord) -> bool
+fn hold_kept(blocks: u64, hold: HoldRecord) -> bool
     requires { ⌜ blocks ≤ 32 ⌝ }
     ensures { λ r. ⌜ r ≡ holdRule blocks (asHold hold) ⌝ }
 {
@@ -95,22 +92,20 @@ pub(crate) fn hold_kept(blocks: u64, hold: HoldRecord) -> bool
     all_at_most(blocks as usize, ends, LATEST_END)
 }
 
-// A refusal leaves the sheet as it was.
-pub(crate) fn refused(sheet: Sheet, number: u64) -> Addition
-    ensures { λ r. ⌜ asAddition r ≡ refuse (asSheet sheet) number ⌝ }
+// The first broken rule of 12 to 14, or 0.
+pub(crate) fn adding_refusal(sheet: Sheet, hold: HoldRecord) -> u64
+    ensures { λ r. ⌜ r ≡ refusal (addingRules (asSheet sheet) (asHold hold)) ⌝ }
 {
-    Addition {
-        answer: Answer::Refused(number),
-        sheet,
+    let blocks = sheet.blocks;
+    let trains = sheet.trains;
+    if !sheet_kept(sheet) {
+        return 12;
     }
-}
-
-// 0 of an accepted call.
-pub(crate) fn refusal_number(answer: Answer) -> u64
-    ensures { λ r. ⌜ r ≡ orZero (refusalOf (asAnswer answer)) ⌝ }
-{
-    match answer {
-        Answer::Accepted { start: _, block: _ } => 0,
-        Answer::Refused(number) => number,
+    if trains == MOST_TRAINS {
+        return 13;
     }
+    if !hold_kept(blocks, hold) {
+        return 14;
+    }
+    0
 }

@@ -1,11 +1,12 @@
 // The least start.
-use crate::HoldRecord;
 use crate::Sheet;
+use holds::HoldRecord;
 ghost use mathlib.Core.Path.{_≡_};
 ghost use Prim.Native.Nat.{_-_, max};
 ghost use Rattle.rules.specs.Sheet.{leastStart};
 ghost use Rattle.rules.specs.Admitted.{Rule12};
-ghost use Rattle.sheet.specs.Values.{asHold, asSheet};
+ghost use Rattle.holds.specs.Values.{asHold};
+ghost use Rattle.sheet.specs.Values.{asSheet};
 
 // The least start for one block.
 fn wait(free: u64, begin: u64) -> u64

@@ -1,179 +1,168 @@
--- What is written of a refusal and of a sheet, and what is answered then. Assumes nothing.
-use Prim.Native.Nat.{ℕ, suc, _+_, _≤_, _<_}
-use mathlib.Core.Bool.{Bool, true, false, cond}
-use mathlib.Core.List.{List, []}
+-- The text of a whole file, and what the sheet program prints. Assumes nothing.
+use Prim.Native.Nat.{ℕ, _+_, _≤_, _<_}
+use mathlib.Core.Bool.{Bool, true, false}
+use mathlib.Core.List.{List, [], _∷_, _++_}
 use mathlib.Core.Path.{_≡_, refl, sym, ap, _∙_}
+use native.Mathlib.Decide.{decLt}
 use native.Mathlib.Nat.{zero-add}
 use native.Mathlib.Omega.{arith}
-use lib.Dec.{leb}
-use lib.ListN.{length, take}
-use lib.Seq.{length-take-le, getD-take}
-use borrow.Author.Tests.{leb-true, ne-eqb}
-use Rattle.rules.specs.Calls.{written, fileRefusal}
-use Rattle.rules.specs.Count.{entry, row}
-use Rattle.rules.specs.File.{trainCount}
-use Rattle.rules.specs.Line.{lineOf}
-use Rattle.rules.specs.Run.{runRow}
-use Rattle.rules.specs.Study.{Study, lastTrain, refusedStudy, acceptedStudy, studied}
-use Rattle.rules.specs.Text.{refusalText, lineOfTrain, sheetText}
-use Rattle.rules.specs.Time.{runTimes}
-use Rattle.rules.proofs.Calls.{written-is}
+use lib.ListN.{length, take, replicate, length-replicate, getD-replicate, List·getD-eq-default}
+use lib.Seq.{ext-getD, length-take-le, getD-take}
+use lib.Dec.{eqb}
+use borrow.Author.Tests.{le-leb, eqb-true}
+use Rattle.rules.specs.Calls.{WriteAnswer, writeAnswer, bytesAfter, written, fileRefusal}
+use Rattle.rules.specs.Count.{entry, row, padded}
+use Rattle.rules.specs.File.{AreBytes, trainCount}
+use Rattle.rules.specs.Meaning.{IsWritten}
+use Rattle.rules.specs.Refusal.{fileRules}
+use Rattle.rules.specs.Text.{refusalText, lineOfTrain, runningTime, sheetText, programText}
+use Rattle.rules.proofs.Accepted.{file-positive, file-most, line-sizes}
+use Rattle.rules.proofs.Calls.{answer-written, bytes-written, written-is}
 use Rattle.rules.proofs.Count.{length-row, entry-row}
-use Rattle.rules.proofs.Loops.{row-agree}
-use Rattle.rules.proofs.Studies.{short-text, all-studied}
-use Rattle.rules.proofs.Text.{text-accepted}
-use Rattle.rules.proofs.Written.{written-none, written-long, written-back}
-use Rattle.text.specs.declared.Wrote.{Wrote}
-use Rattle.text.specs.declared.Wrote.the-variants.{Upto, Nothing}
-use Rattle.text.specs.Text.{placePast, bufferAfter, lineAt, rowsText, equalCounts, sheetPast, sheetBuffer}
-use Rattle.text.proofs.Rows.{counts-equal, rows-put, rows-joined}
-use Rattle.study.specs.declared.StudyAnswer.{StudyAnswer}
-use Rattle.study.specs.Answers.{Tells, Within}
-use Rattle.study.specs.Rows.{HasRows}
+use Rattle.rules.proofs.File.{word-most}
+use Rattle.rules.proofs.Fill.{padded-within, padded-beyond, row-padded}
+use Rattle.rules.proofs.Refusal.{refusal-none, head-kept, append-refused, append-kept}
+use Rattle.rules.proofs.Room.{text-most, refusal-fits}
+use Rattle.rules.proofs.Text.{file-answers, text-accepted, text-refused, program-long, program-whole}
+use Rattle.text.specs.Text.{lineAt, rowsText, equalCounts, roomRefusal, sheetRefusal}
+use Rattle.text.proofs.Rows.{counts-equal, rows-joined, counts-kept}
+use Rattle.study.specs.declared.rows.Rows.{Rows}
+use Rattle.study.specs.Rows.{startAt, blockAt, fileRows}
+use Rattle.study.specs.Study.{studyRefusal, NoneRefused}
 
--- ---- a text put at the beginning of lent bytes
+-- ---- the sheet of a file
 
--- the place told, counted from 1, and 0 for none
-abbrev told : Wrote → ℕ
-told (Upto n) = suc n
-told Nothing = 0
+module _ (file : List ℕ) (bytes : ℕ) where
+  pub study-refused : {n : ℕ} → n ≡ fileRefusal file → (n ≡ 0 → ⊥) → n ≡ studyRefusal file bytes
+  unfolding studyRefusal fileRefusal
+  study-refused e h = e ∙ sym (append-refused (fileRules file) _ (file-positive file) (λ z. h (e ∙ z)))
 
-module _ (buffer text : List ℕ) {w : Wrote} (e : w ≡ placePast buffer 0 text) where
-  pub told-nothing : w ≡ Nothing → leb (length text) (length buffer) ≡ false
-  unfolding placePast
-  told-nothing n = go (leb (length text) (length buffer)) refl
-    where
-      go : (b : Bool) → leb (length text) (length buffer) ≡ b → b ≡ false
-      go false q = refl
-      go true q = let r : Nothing ≡ Upto (0 + length text) = sym n ∙ e ∙ rw (zero-add, q) in absurd (omega (arith, ap told r))
+  by-room : fileRefusal file ≡ 0 → studyRefusal file bytes ≡ roomRefusal (sheetText file) bytes
+  unfolding studyRefusal roomRefusal fileRefusal
+  by-room z = append-kept (fileRules file) _ (file-positive file) z
 
-  pub told-upto : {n : ℕ} → w ≡ Upto n → (leb (length text) (length buffer) ≡ true) × (n ≡ length text)
-  unfolding placePast
-  told-upto {n} u = go (leb (length text) (length buffer)) refl
-    where
-      go : (b : Bool) → leb (length text) (length buffer) ≡ b → (b ≡ true) × (n ≡ length text)
-      go true q = let r : Upto n ≡ Upto (0 + length text) = sym u ∙ e ∙ rw (zero-add, q) in (refl, omega (arith, ap told r))
-      go false q = let r : Upto n ≡ Nothing = sym u ∙ e ∙ rw (zero-add, q) in absurd (omega (arith, ap told r))
+-- a column's entries in use
+taken : (f : ℕ → ℕ) (n : ℕ) → n ≤ 64 → take n (padded 64 (row f n)) ≡ row f n
+taken f n h =
+    ext-getD 0 _ _ (length-take-le n (padded 64 (row f n)) (rw length-row h) ∙ sym (length-row f n))
+    (λ k g.
+    let k-n : k < n = omega (arith, length-take-le n (padded 64 (row f n)) (rw length-row h)) in
+    getD-take n (padded 64 (row f n)) k 0 k-n ∙ padded-within f k-n (omega arith) ∙ sym (entry-row f n k k-n))
 
--- what the bytes hold then
-module _ (buffer text : List ℕ) {after : List ℕ} (e : after ≡ bufferAfter buffer 0 text) where
-  pub left-alone : leb (length text) (length buffer) ≡ false → after ≡ written buffer 0 []
-  unfolding bufferAfter
-  left-alone h = e ∙ rw (zero-add, h) (written-none buffer 0)
+module _ (file : List ℕ) (ok : fileRefusal file ≡ 0) where
+  abbrev T : ℕ
+  T = trainCount file
 
-  pub text-put : leb (length text) (length buffer) ≡ true → after ≡ written buffer 0 text
-  unfolding bufferAfter
-  text-put h = e ∙ rw (zero-add, h)
+  few : T ≤ 64
+  few = line-sizes file ok .trains-most
 
--- the bytes written are within the buffer
-within-none : (number : ℕ) (buffer : List ℕ) → Within (record { number = number; bytes = 0 }) buffer
-within-none number buffer = (omega arith, refl)
-
-within-put :
-    (number n : ℕ) (buffer text : List ℕ) {after : List ℕ} → leb (length text) (length buffer) ≡ true → n ≡ length text → after ≡ written buffer 0 text →
-    Within (record { number = number; bytes = n }) after
-within-put number n buffer text {after} h q e =
-    let room = leb-true (length text) (length buffer) h in
-    let long : n ≤ length after = rw (written-long buffer text e room) (omega arith) in
-    (long, sym (length-take-le n after long))
-
--- ---- a refusal
-
--- what a refusal by another number than 11 leaves
-abbrev pub Refuses : ℕ → List ℕ → List ℕ → StudyAnswer → Type 0
-Refuses number buffer after r =
-    Tells (refusedStudy number [] [] (length buffer)) r × ((after ≡ written buffer 0 (refusedStudy number [] [] (length buffer) .text)) × Within r after)
-
-module _ (buffer : List ℕ) (number : ℕ) (other : number ≡ 11 → ⊥) where
-  refused-text : {b : Bool} → leb (length (refusalText number)) (length buffer) ≡ b → refusedStudy number [] [] (length buffer) .text ≡ cond b (refusalText number) []
-  refused-text h = rw (ne-eqb number 11 other, h)
-
-  module _ {w : Wrote} {after : List ℕ} (e : w ≡ placePast buffer 0 (refusalText number)) (f : after ≡ bufferAfter buffer 0 (refusalText number)) where
-    pub refusal-left : w ≡ Nothing → Refuses number buffer after (record { number = number; bytes = 0 })
-    refusal-left n =
-        let h = told-nothing buffer (refusalText number) e n in
-        let t = refused-text h in
-        (record { number = refl; bytes = rw t }, (rw t (left-alone buffer (refusalText number) f h), within-none number after))
-
-    pub refusal-put : {n : ℕ} → w ≡ Upto n → Refuses number buffer after (record { number = number; bytes = n })
-    refusal-put {n} u =
-        let h = told-upto buffer (refusalText number) e u in
-        let t = refused-text (h .0) in
-        let put = text-put buffer (refusalText number) f (h .0) in
-        (record { number = refl; bytes = rw t (h .1) }, (rw t put, within-put number n buffer (refusalText number) (h .0) (h .1) put))
-
--- ---- the sheet of an accepted file
-
-module _ (file starts runs blocks : List ℕ) (rows : HasRows file starts runs blocks) (ok : fileRefusal file ≡ 0) (few : trainCount file ≤ 64) where
-  shown : (xs : List ℕ) → length xs ≡ 64 → length (take (trainCount file) xs) ≡ trainCount file
-  shown xs h = length-take-le _ _ (omega arith)
-
-  line-is : (k : ℕ) → k < trainCount file → lineAt (take (trainCount file) starts) (take (trainCount file) runs) (take (trainCount file) blocks) k ≡ lineOfTrain file k
+  rows-text : rowsText (row (startAt file) T) (row (runningTime file) T) (row (blockAt file) T) ≡ sheetText file
   unfolding lineAt lineOfTrain
-  line-is k h = rw (getD-take (trainCount file) starts k 0 h, getD-take (trainCount file) runs k 0 h, getD-take (trainCount file) blocks k 0 h, rows .start k h, rows .run k h, rows .block k h)
+  rows-text =
+      rows-joined (row (startAt file) T) (row (runningTime file) T) (row (blockAt file) T) (lineOfTrain file)
+      (λ k h.
+      let m : k < T = rw length-row at h in
+      rw (entry-row (startAt file) T k m, entry-row (runningTime file) T k m, entry-row (blockAt file) T k m))
+      ∙ rw length-row (sym (text-accepted file ok))
 
-  text-is : rowsText (take (trainCount file) starts) (take (trainCount file) runs) (take (trainCount file) blocks) ≡ sheetText file
-  text-is =
-      rows-joined _ _ _ (lineOfTrain file) (λ k h. line-is k (rw (shown starts (rows .long .0)) at h))
-      ∙ rw (shown starts (rows .long .0)) (sym (text-accepted file ok))
+  counts : equalCounts (length (row (startAt file) T)) (length (row (runningTime file) T)) (length (row (blockAt file) T)) ≡ true
+  counts = counts-equal _ _ _ (record { most = rw length-row few; runs-each = simp length-row; blocks-each = simp length-row })
 
-  counted : equalCounts (length (take (trainCount file) starts)) (length (take (trainCount file) runs)) (length (take (trainCount file) blocks)) ≡ true
-  counted =
-      rw (shown starts (rows .long .0), shown runs (rows .long .1), shown blocks (rows .long .2))
-      (counts-equal (trainCount file) (trainCount file) (trainCount file) (record { most = few; runs-each = refl; blocks-each = refl }))
+  sheet-number :
+      (bytes : ℕ) →
+      sheetRefusal (row (startAt file) T) (row (runningTime file) T) (row (blockAt file) T) bytes ≡ studyRefusal file bytes
+  sheet-number bytes =
+      counts-kept _ _ _ bytes counts ∙ ap (λ (text : List ℕ). roomRefusal text bytes) rows-text ∙ sym (by-room file bytes ok)
 
-  module _ (buffer : List ℕ) {trains : ℕ} (q : trains ≡ trainCount file) where
-    pub sheet-past : {w : Wrote} → w ≡ sheetPast buffer (take trains starts) (take trains runs) (take trains blocks) → w ≡ placePast buffer 0 (sheetText file)
-    sheet-past e = e ∙ rw q (rows-put _ _ _ buffer counted .0) ∙ ap (placePast buffer 0) text-is
+  module _ {rows : Rows} {n : ℕ} (e : rows ≡ fileRows file) (q : n ≡ T) where
+    pub rows-long : (n ≤ length (rows .starts)) × (n ≤ length (rows .runs)) × (n ≤ length (rows .blocks))
+    rows-long = let m = few in rw (e, length-row _ 64, length-row _ 64, length-row _ 64) (omega arith, omega arith, omega arith)
 
-    pub sheet-after : {after : List ℕ} → after ≡ sheetBuffer buffer (take trains starts) (take trains runs) (take trains blocks) → after ≡ bufferAfter buffer 0 (sheetText file)
-    sheet-after e = e ∙ rw q (rows-put _ _ _ buffer counted .1) ∙ ap (bufferAfter buffer 0) text-is
+    columns : (take n (rows .starts) ≡ row (startAt file) T) × (take n (rows .runs) ≡ row (runningTime file) T) × (take n (rows .blocks) ≡ row (blockAt file) T)
+    columns = rw (e, q) (taken (startAt file) T few, taken (runningTime file) T few, taken (blockAt file) T few)
 
--- ---- what the study answers
+    module _ (buffer : List ℕ) where
+      pub study-answer :
+          {x : WriteAnswer} →
+          x ≡ writeAnswer (sheetRefusal (take n (rows .starts)) (take n (rows .runs)) (take n (rows .blocks)) (length buffer))
+          (rowsText (take n (rows .starts)) (take n (rows .runs)) (take n (rows .blocks))) →
+          x ≡ writeAnswer (studyRefusal file (length buffer)) (sheetText file)
+      study-answer f = f ∙ rw (columns .0, columns .1, columns .2, sheet-number (length buffer), rows-text)
 
--- what a call leaves
-abbrev pub Leaves : Study → List ℕ → List ℕ → List ℕ → List ℕ → StudyAnswer → Type 0
-Leaves out buffer after speeds times r =
-    Tells out r × ((after ≡ written buffer 0 (out .text)) × ((speeds ≡ out .speeds) × ((times ≡ out .times) × Within r after)))
+      pub study-bytes :
+          {after : List ℕ} →
+          after ≡ bytesAfter (sheetRefusal (take n (rows .starts)) (take n (rows .runs)) (take n (rows .blocks)) (length buffer))
+          (rowsText (take n (rows .starts)) (take n (rows .runs)) (take n (rows .blocks))) buffer →
+          after ≡ bytesAfter (studyRefusal file (length buffer)) (sheetText file) buffer
+      study-bytes f = f ∙ rw (columns .0, columns .1, columns .2, sheet-number (length buffer), rows-text)
 
--- a refusal that leaves the run buffers as they came
-pub leaves-refused :
-    {out : Study} {number : ℕ} (buffer speeds times : List ℕ) {after : List ℕ} {r : StudyAnswer} → out ≡ refusedStudy number speeds times (length buffer) →
-    Refuses number buffer after r → Leaves out buffer after speeds times r
-leaves-refused buffer speeds times o u =
-    (record { number = rw o (u .0 .number); bytes = rw o (u .0 .bytes) }, (rw o (u .1 .0), (rw o, (rw o, u .1 .1))))
+  -- no train is refused
+  pub none-refused : AreBytes file → NoneRefused file
+  none-refused b = file-answers file (word-most file b 8) (word-most file b 10) ok
 
--- 11 leaves the bytes for text too
-pub leaves-11 :
-    {out : Study} (buffer speeds times : List ℕ) {after speeds′ times′ : List ℕ} → out ≡ refusedStudy 11 speeds times (length buffer) →
-    after ≡ written buffer 0 [] → speeds′ ≡ speeds → times′ ≡ times → Leaves out buffer after speeds′ times′ (record { number = 11; bytes = 0 })
-leaves-11 buffer speeds times {after} o e p q = (record { number = rw o; bytes = rw o }, (rw o e, (rw o p, (rw o q, within-none 11 after))))
+-- ---- a text written into zeros
 
-module _ (file speeds times buffer : List ℕ) (ok : fileRefusal file ≡ 0) (p : lineOf file .points ≤ length speeds) (q : lineOf file .points ≤ length times) where
-  module _ {w : Wrote} {after : List ℕ} (e : w ≡ placePast buffer 0 (sheetText file)) (f : after ≡ bufferAfter buffer 0 (sheetText file)) where
-    pub study-left :
-        {speeds′ times′ : List ℕ} → w ≡ Nothing → speeds′ ≡ speeds → times′ ≡ times →
-        Leaves (studied file speeds times (length buffer)) buffer after speeds′ times′ (record { number = 11; bytes = 0 })
-    study-left n es et =
-        let h = told-nothing buffer (sheetText file) e n in
-        leaves-11 buffer speeds times (short-text file speeds times (length buffer) ok p q h) (left-alone buffer (sheetText file) f h) es et
+module _ (text : List ℕ) (m : ℕ) (h : length text ≤ m) where
+  abbrev blank : List ℕ
+  blank = replicate m 0
 
-    pub study-put :
-        {speeds′ times′ : List ℕ} {n : ℕ} → w ≡ Upto n →
-        speeds′ ≡ written speeds 0 (runRow (lineOf file) (lastTrain file)) → times′ ≡ written times 0 (runTimes (lineOf file) (lastTrain file)) →
-        Leaves (studied file speeds times (length buffer)) buffer after speeds′ times′ (record { number = 0; bytes = n })
-    study-put {speeds′} {times′} {n} u es et =
-        let h = told-upto buffer (sheetText file) e u in
-        let put = text-put buffer (sheetText file) f (h .0) in
-        let o : studied file speeds times (length buffer) ≡ acceptedStudy file speeds times = all-studied file speeds times (length buffer) ok p q (h .0) in
-        (record { number = rw o; bytes = rw o (h .1) }, (rw o put, (rw o es, (rw o et, within-put 0 n buffer (sheetText file) (h .0) (h .1) put))))
+  pub room-kept : roomRefusal text (length blank) ≡ 0
+  unfolding roomRefusal
+  room-kept = rw length-replicate (head-kept 11 _ [] (le-leb (length text) m h) ∙ refusal-none)
 
--- the entries kept before a run, put back behind it
-pub put-back :
-    (s xs zeros : List ℕ) {n : ℕ} {kept s′ s″ : List ℕ} → length xs ≡ n → n ≤ length s → n ≤ length zeros →
-    kept ≡ written zeros 0 (row (entry s) n) → s′ ≡ written s 0 xs → s″ ≡ written s′ 0 (row (entry kept) n) → s″ ≡ s
-put-back s xs zeros {n} {kept} {s′} {s″} l h z k e f =
-    let w = written-is zeros 0 (row (entry s) n) (rw (length-row, zero-add) z) in
-    let same : row (entry kept) n ≡ row (entry s) n =
-    row-agree (entry kept) (entry s) n (λ i m. ap (λ (r : List ℕ). entry r i) k ∙ rw zero-add at (w .inside i (rw length-row m)) ∙ entry-row (entry s) n i m) in
-    f ∙ rw (same, e) (rw l at (written-back s xs (rw l h)))
+  pub printed : {after : List ℕ} {n : ℕ} → n ≡ 0 → after ≡ bytesAfter n text blank → after ≡ padded m text
+  printed {after} {n} z e =
+      let long : length blank ≡ m = length-replicate m 0 in
+      let w = written-is blank 0 text (rw (zero-add, long) h) in
+      let put : after ≡ written blank 0 text = e ∙ rw z (bytes-written text blank) in
+      put
+      ∙ ext-getD 0 (written blank 0 text) (padded m text) (w .places ∙ long ∙ sym (length-row _ m))
+      (λ k g. at k (omega (arith, w .places, long)) w (decLt k (length text)))
+    where
+      at : (k : ℕ) → k < m → IsWritten blank 0 text (written blank 0 text) → Dec (k < length text) → entry (written blank 0 text) k ≡ entry (padded m text) k
+      at k g w (yes l) = rw zero-add at (w .inside k l) ∙ sym (entry-row (entry text) m k g)
+      at k g w (no l) =
+          w .behind k (rw zero-add (omega arith)) ∙ getD-replicate m k 0 0 g
+          ∙ sym (entry-row (entry text) m k g ∙ List·getD-eq-default text 0 (omega arith))
+
+  pub counted : {x : WriteAnswer} {n : ℕ} → n ≡ 0 → x ≡ writeAnswer n text → x .bytes ≡ length text
+  counted z e = rw (e, z, answer-written text)
+
+-- ---- what the program prints
+
+pub number-told : {x : WriteAnswer} (n : ℕ) (text : List ℕ) → x ≡ writeAnswer n text → x .number ≡ n
+unfolding writeAnswer
+number-told {x} n text e = ap (λ (x : WriteAnswer). x .number) e ∙ go (eqb n 0) refl
+  where
+    go : (b : Bool) → eqb n 0 ≡ b → writeAnswer n text .number ≡ n
+    go true q = rw q (sym (eqb-true n 0 q))
+    go false q = rw q
+
+module _ (input : List ℕ) where
+  -- input above the bound, a refused file, and an accepted one
+  pub long-printed : 16384 < length input → refusalText 2 ≡ programText input
+  long-printed h = sym (program-long input h)
+
+  module _ (le : length input ≤ 16384) (m : ℕ) (room : 2390 ≤ m) where
+    -- 11 is never said
+    told : studyRefusal input m ≡ fileRefusal input
+    told = go (decLt 0 (fileRefusal input))
+      where
+        go : Dec (0 < fileRefusal input) → studyRefusal input m ≡ fileRefusal input
+        go (yes p) = sym (study-refused input m refl (λ z. omega arith))
+        go (no p) =
+            let ok : fileRefusal input ≡ 0 = omega arith in
+            by-room input m ok ∙ fits ok ∙ sym ok
+          where
+            fits : fileRefusal input ≡ 0 → roomRefusal (sheetText input) m ≡ 0
+            fits ok =
+                let short : length (sheetText input) ≤ m = omega (arith, text-most input ok) in
+                rw length-replicate at (room-kept (sheetText input) m short)
+
+    pub refused-printed : {n : ℕ} → n ≡ studyRefusal input m → (n ≡ 0 → ⊥) → (n ≤ 9) × (refusalText n ≡ programText input)
+    refused-printed {n} e h =
+        let same : n ≡ fileRefusal input = e ∙ told in
+        (omega (arith, file-most input), ap refusalText same ∙ sym (program-whole input le ∙ text-refused input (λ z. h (same ∙ z))))
+
+    pub sheet-printed : {n : ℕ} → n ≡ studyRefusal input m → n ≡ 0 → (length (sheetText input) ≤ 2390) × (sheetText input ≡ programText input)
+    sheet-printed e z = (text-most input (sym told ∙ sym e ∙ z), sym (program-whole input le))

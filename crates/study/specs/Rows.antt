@@ -1,29 +1,38 @@
 -- The figures of the trains of a file.
-use Prim.Native.Nat.{ℕ, _-_, _<_}
+use Prim.Native.Nat.{ℕ, _-_, _≤_}
 use mathlib.Core.List.{List}
-use mathlib.Core.Path.{_≡_}
-use lib.ListN.{length, getD}
-use Rattle.rules.specs.Count.{entry}
-use Rattle.rules.specs.File.{trainCount}
+use lib.ListN.{getD}
+use Rattle.rules.specs.Count.{entry, row, padded}
+use Rattle.rules.specs.File.{trainCount, bandCount, stopCount}
 use Rattle.rules.specs.Line.{Line, Train}
 use Rattle.rules.specs.Time.{runTimes}
-use Rattle.rules.specs.Hold.{holdOf}
-use Rattle.rules.specs.Sheet.{Sheet}
-use Rattle.rules.specs.Calls.{refused, added}
+use Rattle.rules.specs.Calls.{Answer, refused}
 use Rattle.rules.specs.Text.{startOf, blockOf, fileAnswers, runningTime}
-use Rattle.sheet.specs.Values.{asSheet}
-use Rattle.study.specs.declared.rows.Added.{Added}
+use Rattle.study.specs.declared.rows.Rows.{Rows}
 
--- the figures of a train added to a sheet, and the sheet after it
-pub record IsAdded (l : Line) (t : Train) (s : Sheet) (r : Added) : Type 0 where
-  pub start : r .start ≡ startOf (added s (holdOf l t) .answer)
-  pub run : r .run ≡ entry (runTimes l t) (l .points - 1)
-  pub block : r .block ≡ blockOf (added s (holdOf l t) .answer)
-  pub sheet : asSheet (r .sheet) ≡ added s (holdOf l t) .sheet
+-- the record that the bytes begin with has no more bands and stops than an array has places
+pub record Decodes (bytes : List ℕ) : Type 0 where
+  pub bands : bandCount bytes 0 ≤ 64
+  pub stops : stopCount bytes 0 ≤ 64
 
--- the figures of all trains of the file, each in an array of 64 entries
-pub record HasRows (file starts runs blocks : List ℕ) : Type 0 where
-  pub long : (length starts ≡ 64) × (length runs ≡ 64) × (length blocks ≡ 64)
-  pub start : (k : ℕ) → k < trainCount file → entry starts k ≡ startOf (getD (fileAnswers file) k (refused 0))
-  pub run : (k : ℕ) → k < trainCount file → entry runs k ≡ runningTime file k
-  pub block : (k : ℕ) → k < trainCount file → entry blocks k ≡ blockOf (getD (fileAnswers file) k (refused 0))
+-- the arrival of a train at the last point
+abbrev pub lastArrival : Line → Train → ℕ
+lastArrival l t = entry (runTimes l t) (l .points - 1)
+
+-- the answer to train k, its start and its block
+abbrev pub answerTo : List ℕ → ℕ → Answer
+answerTo file k = getD (fileAnswers file) k (refused 0)
+
+abbrev pub startAt : List ℕ → ℕ → ℕ
+startAt file k = startOf (answerTo file k)
+
+abbrev pub blockAt : List ℕ → ℕ → ℕ
+blockAt file k = blockOf (answerTo file k)
+
+-- a figure of each train, in 64 places
+abbrev pub column : List ℕ → (ℕ → ℕ) → List ℕ
+column file figure = padded 64 (row figure (trainCount file))
+
+abbrev pub fileRows : List ℕ → Rows
+fileRows file =
+    record { starts = column file (startAt file); runs = column file (runningTime file); blocks = column file (blockAt file) }

@@ -1,39 +1,36 @@
 // The start, the running time and the block of each train of a file.
+use holds::HoldRecord;
 use line::FileAnswer;
-use line::Line;
+use reading::decode_train;
+use reading::record_size;
 use sheet::Answer;
 use sheet::Sheet;
-ghost use mathlib.Core.Bool.{true};
+use values::Line;
 ghost use mathlib.Core.Path.{_≡_};
-ghost use Prim.Native.Nat.{_≤_};
+ghost use Prim.Native.Nat.{_≤_, _<_};
 ghost use lib.ListN.{length};
 ghost use Rattle.rules.specs.Admitted.{Admitted};
-ghost use Rattle.rules.specs.Calls.{written, fileRefusal};
-ghost use Rattle.rules.specs.File.{recordEnd};
-ghost use Rattle.rules.specs.Line.{lineOf, trainAt};
-ghost use Rattle.rules.specs.Run.{runRow};
-ghost use Rattle.rules.specs.Study.{lastTrain};
+ghost use Rattle.rules.specs.Calls.{fileRefusal};
+ghost use Rattle.rules.specs.Hold.{holdOf};
+ghost use Rattle.rules.specs.Line.{trainAt};
 ghost use Rattle.rules.specs.Text.{startOf, blockOf};
-ghost use Rattle.rules.specs.Time.{runTimes};
-ghost use Rattle.line.specs.Opened.{fileIn, openedFile, hasTrain};
-ghost use Rattle.line.specs.Values.{lineIn};
-ghost use Rattle.sheet.specs.Values.{asAnswer, asSheet};
-ghost use Rattle.study.specs.Rows.{IsAdded, HasRows};
+ghost use Rattle.holds.specs.Values.{asHold};
+ghost use Rattle.values.specs.Values.{asLine};
+ghost use Rattle.line.specs.Answers.{openedFile};
+ghost use Rattle.sheet.specs.Values.{asAnswer};
+ghost use Rattle.study.specs.Rows.{Decodes, lastArrival, fileRows};
 
-// Of each train, in the file's order.
+// Of each train, in the file's order; the places behind them are 0.
 pub struct Rows {
     pub starts: [u64; 64],
     pub runs: [u64; 64],
     pub blocks: [u64; 64],
 }
 
-// A train's figures, the sheet after it and the place past its record.
-pub struct Added {
-    pub start: u64,
+// A train's hold record and its running time.
+pub(crate) struct Timed {
+    pub hold: HoldRecord,
     pub run: u64,
-    pub block: u64,
-    pub sheet: Sheet,
-    pub next: usize,
 }
 
 // 0 of a refused addition, as in the rules.
@@ -55,73 +52,50 @@ fn block_of(answer: Answer) -> u64
     }
 }
 
-// Runs and holds the train whose record stands at a place, and adds it to the sheet.
-fn add_train(
-    file: &[u8],
-    at: usize,
-    line: Line,
-    sheet: Sheet,
-    speeds: &mut [u32],
-    times: &mut [u64],
-) -> Added
-    requires { ⌜ Admitted (lineIn line) (trainAt (now file) at) × (hasTrain (now file) at ≡ true) ⌝ }
+// Runs and holds the train whose record the bytes begin with.
+fn time_train(line: Line, bytes: &[u8], speeds: &mut [u32], times: &mut [u64]) -> Timed
+    requires { ⌜ Admitted (asLine line) (trainAt (now bytes) 0) × Decodes (now bytes) ⌝ }
     requires { ⌜ (line .points ≤ length (now speeds)) × (line .points ≤ length (now times)) ⌝ }
-    ensures { λ r. ⌜ IsAdded (lineIn line) (trainAt (now (file .entry)) at) (asSheet sheet) r × (r .next ≡ recordEnd (now (file .entry)) at) ⌝ }
-    ensures { λ _. ⌜ now (speeds .exit) ≡ written (now (speeds .entry)) 0 (runRow (lineIn line) (trainAt (now (file .entry)) at)) ⌝ }
-    ensures { λ _. ⌜ now (times .exit) ≡ written (now (times .entry)) 0 (runTimes (lineIn line) (trainAt (now (file .entry)) at)) ⌝ }
+    ensures { λ r. ⌜ (asHold (r .hold) ≡ holdOf (asLine line) (trainAt (now (bytes .entry)) 0)) × (r .run ≡ lastArrival (asLine line) (trainAt (now (bytes .entry)) 0)) ⌝ }
+    ensures { λ _. ⌜ (length (now (speeds .exit)) ≡ length (now (speeds .entry))) × (length (now (times .exit)) ≡ length (now (times .entry))) ⌝ }
 {
-    let here = line::train_at(file, at);
-    let held = hold::hold_train(line, here.train, speeds, times);
-    let added = sheet::with_hold(sheet, held.hold);
-    let answer = added.answer;
-    let after = added.sheet;
+    let held = hold::hold_train(line, decode_train(bytes), speeds, times);
+    let hold = held.hold;
     let last = line.points as usize - 1;
-    Added {
-        start: start_of(answer),
+    Timed {
+        hold,
         run: times[last],
-        block: block_of(answer),
-        sheet: after,
-        next: here.next,
     }
 }
 
-fn no_rows() -> Rows
-    ensures { λ r. ⌜ (length (r .starts) ≡ 64) × (length (r .runs) ≡ 64) × (length (r .blocks) ≡ 64) ⌝ }
-{
-    Rows {
-        starts: [0; 64],
-        runs: [0; 64],
-        blocks: [0; 64],
-    }
-}
-
-// Of an accepted file. The run buffers end with the run of its last train.
-pub(crate) fn rows_of(
-    file: &[u8],
-    opened: FileAnswer,
-    speeds: &mut [u32],
-    times: &mut [u64],
-) -> Rows
-    requires { ⌜ (fileRefusal (now file) ≡ 0) × (fileIn opened ≡ openedFile (now file)) ⌝ }
-    requires { ⌜ (opened .line .points ≤ length (now speeds)) × (opened .line .points ≤ length (now times)) ⌝ }
-    ensures { λ r. ⌜ HasRows (now (file .entry)) (r .starts) (r .runs) (r .blocks) ⌝ }
-    ensures { λ _. ⌜ now (speeds .exit) ≡ written (now (speeds .entry)) 0 (runRow (lineOf (now (file .entry))) (lastTrain (now (file .entry)))) ⌝ }
-    ensures { λ _. ⌜ now (times .exit) ≡ written (now (times .entry)) 0 (runTimes (lineOf (now (file .entry))) (lastTrain (now (file .entry)))) ⌝ }
+// Of an accepted file.
+pub(crate) fn rows_of(file: &[u8], opened: FileAnswer) -> Rows
+    requires { ⌜ (fileRefusal (now file) ≡ 0) × (opened ≡ openedFile (now file)) ⌝ }
+    ensures { λ r. ⌜ r ≡ fileRows (now (file .entry)) ⌝ }
 {
     let line = opened.line;
-    let fresh = sheet::open_sheet(line.blocks as u64);
-    let mut sheet = fresh.sheet;
-    let mut rows = no_rows();
+    let mut speeds = [0u32; 4096];
+    let mut times = [0u64; 4096];
+    let mut starts = [0u64; 64];
+    let mut runs = [0u64; 64];
+    let mut blocks = [0u64; 64];
+    let mut sheet = sheet::open_sheet(line.block_count as u64).sheet;
     let mut at = opened.at;
     let mut k = 0;
     while k < opened.trains {
-        let added = add_train(file, at, line, sheet, speeds, times);
-        rows.starts[k] = added.start;
-        rows.runs[k] = added.run;
-        rows.blocks[k] = added.block;
+        let timed = time_train(line, &file[at..], &mut speeds, &mut times);
+        let added = sheet::with_hold(sheet, timed.hold);
+        let answer = added.answer;
         sheet = added.sheet;
-        at = added.next;
+        starts[k] = start_of(answer);
+        runs[k] = timed.run;
+        blocks[k] = block_of(answer);
+        at += record_size(&file[at..]);
         k += 1;
     }
-    rows
+    Rows {
+        starts,
+        runs,
+        blocks,
+    }
 }

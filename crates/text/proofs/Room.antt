@@ -1,36 +1,42 @@
--- What a call answers and leaves, by whether its text fits. Assumes nothing.
-use Prim.Native.Nat.{ℕ, _+_, _-_, _≤_}
-use mathlib.Core.Bool.{Bool, true, false}
-use mathlib.Core.List.{List}
-use mathlib.Core.Path.{_≡_, sym, ap, _∙_}
-use native.Mathlib.Decide.{decLe}
+-- What a call answers and leaves, by its number of refusal. Assumes nothing.
+use Prim.Native.Nat.{ℕ, _≤_, _<_}
+use mathlib.Core.List.{List, []}
+use mathlib.Core.Path.{_≡_, sym, _∙_}
+use native.Mathlib.Nat.{zero-add}
 use native.Mathlib.Omega.{arith}
 use lib.Dec.{leb}
 use lib.ListN.{length}
-use borrow.Author.Tests.{le-leb, lt-leb, leb-true}
-use Rattle.text.specs.declared.Wrote.the-variants.{Upto, Nothing}
-use Rattle.text.specs.Text.{Placed, placePast, bufferAfter}
+use borrow.Author.Tests.{leb-true, le-leb, lt-leb}
+use Rattle.rules.specs.Calls.{writeAnswer, bytesAfter}
+use Rattle.rules.proofs.Calls.{answer-written, bytes-written, answer-refused, bytes-kept}
+use Rattle.rules.proofs.Refusal.{refusal-none, head-broken, head-kept, head-accepted}
+use Rattle.text.specs.Text.{Placed, roomRefusal}
 
-pub room-behind : (bytes at text : ℕ) → at ≤ bytes → leb text (bytes - at) ≡ leb (at + text) bytes
-room-behind bytes at text h = go (decLe (at + text) bytes)
-  where
-    go : Dec (at + text ≤ bytes) → leb text (bytes - at) ≡ leb (at + text) bytes
-    go (yes l) = le-leb text (bytes - at) (omega arith) ∙ sym (le-leb (at + text) bytes l)
-    go (no l) = lt-leb text (bytes - at) (omega arith) ∙ sym (lt-leb (at + text) bytes (omega arith))
+-- ---- a call with this number of refusal
 
--- a call finds out by the length n whether its text fits
-module _ (buffer : List ℕ) (at : ℕ) (text : List ℕ) where
-  pub fits : {n : ℕ} {found : Bool} → n ≡ length text → found ≡ leb (at + n) (length buffer) → found ≡ true → at + length text ≤ length buffer
-  fits {n} {found} e f t = let z : leb (at + n) (length buffer) ≡ true = cc in omega (arith, leb-true (at + n) (length buffer) z)
+module _ (text buffer : List ℕ) {number : ℕ} where
+  pub refused-by :
+      {found : ℕ} → found ≡ number → (found ≡ 0 → ⊥) →
+      (record { number = found; bytes = 0 } ≡ writeAnswer number text) × (buffer ≡ bytesAfter number text buffer)
+  refused-by e h = rw (sym e) (sym (answer-refused text h), sym (bytes-kept text h buffer))
 
-  pub left-out :
-      {n : ℕ} {found : Bool} → n ≡ length text → found ≡ leb (at + n) (length buffer) → found ≡ false →
-      (Nothing ≡ placePast buffer at text) × (buffer ≡ bufferAfter buffer at text)
-  unfolding placePast bufferAfter
-  left-out {n} {found} e f t = let z : leb (at + length text) (length buffer) ≡ false = cc in (rw z, rw z)
+  pub wrote-all :
+      {past : ℕ} {after : List ℕ} → number ≡ 0 → Placed buffer 0 text past after →
+      (record { number = 0; bytes = past } ≡ writeAnswer number text) × (after ≡ bytesAfter number text buffer)
+  wrote-all z p =
+      rw z (rw (p .past-text, zero-add) (sym (answer-written text)), p .bytes ∙ sym (bytes-written text buffer))
 
-  pub put-in :
-      {past : ℕ} {after : List ℕ} → at + length text ≤ length buffer → Placed buffer at text past after →
-      (Upto past ≡ placePast buffer at text) × (after ≡ bufferAfter buffer at text)
-  unfolding placePast bufferAfter
-  put-in h p = let e = le-leb (at + length text) (length buffer) h in (rw e (ap Upto (p .past-text)), rw e (p .bytes))
+-- ---- the number of a text
+
+module _ (text : List ℕ) (bytes : ℕ) where
+  pub room-short : bytes < length text → 11 ≡ roomRefusal text bytes
+  unfolding roomRefusal
+  room-short h = sym (head-broken 11 (leb (length text) bytes) [] (lt-leb (length text) bytes h))
+
+  pub room-enough : length text ≤ bytes → 0 ≡ roomRefusal text bytes
+  unfolding roomRefusal
+  room-enough h = sym (head-kept 11 (leb (length text) bytes) [] (le-leb (length text) bytes h) ∙ refusal-none)
+
+  pub room-there : roomRefusal text bytes ≡ 0 → length text ≤ bytes
+  unfolding roomRefusal
+  room-there z = leb-true (length text) bytes (head-accepted 11 (leb (length text) bytes) [] (omega arith) z .0)

@@ -1,30 +1,23 @@
 -- The sheet program's text in lent bytes.
 use Prim.Native.Nat.{ℕ, _+_, _≤_}
-use mathlib.Core.Bool.{Bool, cond}
-use mathlib.Core.List.{List, _++_}
+use mathlib.Core.Bool.{Bool}
+use mathlib.Core.List.{List, [], _∷_, _++_}
 use mathlib.Core.Path.{_≡_}
 use lib.Dec.{leb, eqb}
 use lib.ListN.{length}
+use Rattle.rules.specs.Calls as calls
 use Rattle.rules.specs.Count.{_and_, entry}
-use Rattle.rules.specs.Calls.{written}
+use Rattle.rules.specs.Refusal.{rule, refusal}
 use Rattle.rules.specs.Text.{header, trainLine, joined}
-use Rattle.text.specs.declared.Wrote.{Wrote}
-use Rattle.text.specs.declared.Wrote.the-variants.{Upto, Nothing}
+use Rattle.text.specs.declared.WriteAnswer.{WriteAnswer}
+
+abbrev pub asWriteAnswer : WriteAnswer → calls.WriteAnswer
+asWriteAnswer r = record { number = r .number; bytes = r .bytes }
 
 -- the text stands in the buffer from place `at` on, and `past` is the place behind it
 pub record Placed (buffer : List ℕ) (at : ℕ) (text : List ℕ) (past : ℕ) (after : List ℕ) : Type 0 where
   pub past-text : past ≡ at + length text
-  pub bytes : after ≡ written buffer at text
-
--- ---- where there may be too little room
-
--- the place behind the text, or that nothing is written
-unfoldable pub placePast : List ℕ → ℕ → List ℕ → Wrote
-placePast buffer at text = cond (leb (at + length text) (length buffer)) (Upto (at + length text)) Nothing
-
--- the buffer then
-unfoldable pub bufferAfter : List ℕ → ℕ → List ℕ → List ℕ
-bufferAfter buffer at text = cond (leb (at + length text) (length buffer)) (written buffer at text) buffer
+  pub bytes : after ≡ calls.written buffer at text
 
 -- ---- the sheet, from the start, the run and the block of each train
 
@@ -49,12 +42,14 @@ pub record Counted (starts runs blocks : ℕ) : Type 0 where
 unfoldable pub equalCounts : ℕ → ℕ → ℕ → Bool
 equalCounts starts runs blocks = leb starts 64 and eqb runs starts and eqb blocks starts
 
--- the answer for the whole sheet: nothing is written where the counts differ or exceed 64, or where the text does not fit
-unfoldable pub sheetPast : List ℕ → List ℕ → List ℕ → List ℕ → Wrote
-sheetPast buffer starts runs blocks =
-    cond (equalCounts (length starts) (length runs) (length blocks)) (placePast buffer 0 (rowsText starts runs blocks)) Nothing
+-- ---- the number of refusal, by how many bytes are lent, or 0
 
--- the buffer then
-unfoldable pub sheetBuffer : List ℕ → List ℕ → List ℕ → List ℕ → List ℕ
-sheetBuffer buffer starts runs blocks =
-    cond (equalCounts (length starts) (length runs) (length blocks)) (bufferAfter buffer 0 (rowsText starts runs blocks)) buffer
+-- of a text: it does not fit
+unfoldable pub roomRefusal : List ℕ → ℕ → ℕ
+roomRefusal text bytes = refusal (rule 11 (leb (length text) bytes) ∷ [])
+
+-- of a sheet: the counts differ or exceed 64, or its text does not fit
+unfoldable pub sheetRefusal : List ℕ → List ℕ → List ℕ → ℕ → ℕ
+sheetRefusal starts runs blocks bytes =
+    refusal
+    (rule 11 (equalCounts (length starts) (length runs) (length blocks)) ∷ rule 11 (leb (length (rowsText starts runs blocks)) bytes) ∷ [])

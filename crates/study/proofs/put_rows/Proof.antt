@@ -5,28 +5,22 @@ use Rattle.study.proofs.put_rows.Statement.{statement}
 use Rattle.study.proofs.put_rows.Tie as tie
 
 array-share-prefix-starts : tie.Need-array-share-prefix-starts
-array-share-prefix-starts c =
-    c .before .before .before .before .before .pre .0
+array-share-prefix-starts c = c .before .before .before .before .before .pre .0
 
 slice-aggregate-put-sheet : tie.Need-slice-aggregate-put-sheet
-slice-aggregate-put-sheet c =
-    sym (length-take-le _ _ (array-share-prefix-starts (c .before)))
+slice-aggregate-put-sheet c = sym (length-take-le _ _ (array-share-prefix-starts (c .before)))
 
 array-share-prefix-runs : tie.Need-array-share-prefix-runs
-array-share-prefix-runs c =
-    c .before .before .before .before .before .before .pre .1
+array-share-prefix-runs c = c .before .before .before .before .before .before .pre .1
 
 slice-aggregate-put-sheet-2 : tie.Need-slice-aggregate-put-sheet-2
-slice-aggregate-put-sheet-2 c =
-    sym (length-take-le _ _ (array-share-prefix-runs (c .before)))
+slice-aggregate-put-sheet-2 c = sym (length-take-le _ _ (array-share-prefix-runs (c .before)))
 
 array-share-prefix-blocks : tie.Need-array-share-prefix-blocks
-array-share-prefix-blocks c =
-    c .before .before .before .before .before .before .before .pre .2
+array-share-prefix-blocks c = c .before .before .before .before .before .before .before .pre .2
 
 slice-aggregate-put-sheet-3 : tie.Need-slice-aggregate-put-sheet-3
-slice-aggregate-put-sheet-3 c =
-    sym (length-take-le _ _ (array-share-prefix-blocks (c .before)))
+slice-aggregate-put-sheet-3 c = sym (length-take-le _ _ (array-share-prefix-blocks (c .before)))
 
 put-sheet-requires : tie.Need-put-sheet-requires
 put-sheet-requires c κs = search needs
@@ -35,8 +29,7 @@ same-length : tie.Need-same-length
 same-length c = search needs
 
 returns : tie.Need-returns
-returns c =
-    (c .before .before .put-sheet .ensures .0, c .before .before .put-sheet .ensures .1)
+returns c = let e = c .before .before .put-sheet .ensures in (e .0, e .1)
 
 pub put-rows-spec : {M : Type 1} → statement M
 put-rows-spec =

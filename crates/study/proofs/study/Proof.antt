@@ -1,17 +1,10 @@
-use Rattle.rules.specs.Study.{refusedStudy}
-use Rattle.rules.specs.Calls.{fileRefusal}
-use lib.ListN.{length}
-use mathlib.Core.Path.{refl}
-use Prim.Native.Nat.{ℕ}
-use Rattle.line.proofs.Callers.{number-opened, line-opened}
-use Rattle.study.proofs.Texts.{leaves-refused, leaves-11}
-use Rattle.rules.proofs.Room.{file-most}
-use Rattle.rules.proofs.Written.{written-none}
-use Rattle.rules.proofs.Text.{file-answers}
-use Rattle.rules.proofs.Studies.{file-not-studied, short-speeds, short-times}
-use Rattle.rules.specs.Line.{Line}
-use mathlib.Core.Path.{_≡_, sym, ap, _∙_}
+use mathlib.Core.Path.{_≡_, sym, _∙_}
 use native.Mathlib.Omega.{arith}
+use Rattle.study.specs.Study.{studyRefusal}
+use Rattle.rules.proofs.Calls.{answer-refused, bytes-kept}
+use Rattle.line.proofs.Opening.{file-number, file-accepted, file-trains}
+use Rattle.study.proofs.Texts.{study-refused, rows-long, study-answer, study-bytes, none-refused}
+use lib.ListN.{length}
 use borrow.Author.Needs.{needs}
 use Rattle.study.proofs.study.Statement.{statement}
 use Rattle.study.proofs.study.Tie as tie
@@ -19,87 +12,41 @@ use Rattle.study.proofs.study.Tie as tie
 open-file-requires : tie.Need-open-file-requires
 open-file-requires c κs = search needs
 
-refuse-requires : tie.Need-refuse-requires
-refuse-requires c κs =
-    let a = c .before .before .before .before .before .before .before .before .args in
-    let file = a .file .now in
-    let number = number-opened file (c .before .before .before .open-file .ensures) in
-    λ e. omega (arith, file-most file)
+returns : tie.Need-returns
+returns c =
+    let o = c .before .before in
+    let a = o .before .before .before .args in
+    let n = study-refused _ (length (a .text .now)) (file-number _ (o .open-file .ensures)) (c .if1 .taken) in
+    let h : studyRefusal (a .file .now) (length (a .text .now)) ≡ 0 → ⊥ = λ z. c .if1 .taken (n ∙ z) in
+    (rw n (sym (answer-refused _ h)), (sym (bytes-kept _ h (a .text .now)), λ z. absurd (c .if1 .taken z)))
+
+rows-of-requires : tie.Need-rows-of-requires
+rows-of-requires c κs = let e = c .before .before .open-file .ensures in (file-accepted _ e (c .if1 .left), e)
+
+put-rows-requires : tie.Need-put-rows-requires
+put-rows-requires c κs =
+    let r = c .before in
+    let k = r .before in
+    let e = k .before .before .open-file .ensures in
+    rows-long _ (file-accepted _ e (k .if1 .left)) (r .rows-of .ensures) (file-trains _ e (k .if1 .left))
 
 same-length : tie.Need-same-length
 same-length c = search needs
 
-returns : tie.Need-returns
-returns c =
-    let a = c .before .before .before .before .before .before .before .before .before .before .before .args in
-    let file = a .file .now in
-    let number = number-opened file (c .before .before .before .before .before .before .open-file .ensures) in
-    let out = file-not-studied file (a .speeds .now) (a .times .now) (length (a .text .now)) (λ z. omega arith) ∙ ap (λ (n : ℕ). refusedStudy n (a .speeds .now) (a .times .now) (length (a .text .now))) (sym number) in
-    let u = leaves-refused (a .text .now) (a .speeds .now) (a .times .now) out (c .before .before .refuse .ensures) in
-    (u .0, (u .1 .0, (u .1 .1 .0, (u .1 .1 .1 .0, (u .1 .1 .1 .1, λ z. absurd (omega (arith, c .before .before .refuse .ensures .0 .number)))))))
-
-cast-points : tie.Need-cast-points
-cast-points c = search needs
-
 returns-2 : tie.Need-returns-2
 returns-2 c =
-    let a = c .before .before .before .before .before .before .before .before .before .args in
-    let file = a .file .now in
-    let number = number-opened file (c .before .before .before .before .open-file .ensures) in
-    let ok : fileRefusal file ≡ 0 = omega arith in
-    let points = ap (λ (l : Line). l .points) (line-opened file ok (c .before .before .before .before .open-file .ensures)) in
-    let u = leaves-11 (a .text .now) (a .speeds .now) (a .times .now) (short-speeds file (a .speeds .now) (a .times .now) (length (a .text .now)) ok (omega arith)) (written-none (a .text .now) 0) refl refl in
-    (u .0, (u .1 .0, (u .1 .1 .0, (u .1 .1 .1 .0, (u .1 .1 .1 .1, λ z. absurd (omega arith))))))
-
-returns-3 : tie.Need-returns-3
-returns-3 c =
-    let a = c .before .before .before .before .before .before .before .before .before .before .args in
-    let file = a .file .now in
-    let number = number-opened file (c .before .before .before .before .before .open-file .ensures) in
-    let ok : fileRefusal file ≡ 0 = omega arith in
-    let points = ap (λ (l : Line). l .points) (line-opened file ok (c .before .before .before .before .before .open-file .ensures)) in
-    let u = leaves-11 (a .text .now) (a .speeds .now) (a .times .now) (short-times file (a .speeds .now) (a .times .now) (length (a .text .now)) ok (omega arith) (omega arith)) (written-none (a .text .now) 0) refl refl in
-    (u .0, (u .1 .0, (u .1 .1 .0, (u .1 .1 .1 .0, (u .1 .1 .1 .1, λ z. absurd (omega arith))))))
-
-study-file-requires : tie.Need-study-file-requires
-study-file-requires c κs =
-    let a = c .before .before .before .before .before .before .before .before .before .before .before .before .before .args in
-    let file = a .file .now in
-    let number = number-opened file (c .before .before .before .before .before .before .before .before .open-file .ensures) in
-    let ok : fileRefusal file ≡ 0 = omega arith in
-    ((ok, c .before .before .before .before .before .before .before .before .open-file .ensures), (omega arith, omega arith))
-
-same-length-2 : tie.Need-same-length-2
-same-length-2 c = search needs
-
-same-length-3 : tie.Need-same-length-3
-same-length-3 c = search needs
-
-same-length-4 : tie.Need-same-length-4
-same-length-4 c = search needs
-
-returns-4 : tie.Need-returns-4
-returns-4 c =
-    let a = c .before .before .before .before .before .before .before .before .before .before .before .before .before .before .before .before .before .before .before .before .args in
-    let file = a .file .now in
-    let number = number-opened file (c .before .before .before .before .before .before .before .before .before .before .before .before .before .before .before .open-file .ensures) in
-    let ok : fileRefusal file ≡ 0 = omega arith in
-    let u = c .before .before .before .before .before .before .study-file .ensures in
-    (u .0, (u .1 .0, (u .1 .1 .0, (u .1 .1 .1 .0, (u .1 .1 .1 .1, λ z b k h. file-answers file b ok k h)))))
+    let p = c .before .before in
+    let r = p .before .before in
+    let k = r .before in
+    let s = k .before .before .before .before in
+    let e = k .before .before .open-file .ensures in
+    let ok = file-accepted _ e (k .if1 .left) in
+    let q = file-trains _ e (k .if1 .left) in
+    let buffer = s .before .args .text .now in
+    (study-answer _ ok (r .rows-of .ensures) q buffer (p .put-rows .ensures .0),
+      (study-bytes _ ok (r .rows-of .ensures) q buffer (p .put-rows .ensures .1), λ z. none-refused _ ok (λ i. omega (arith, s .shared-slice-known .given i))))
 
 pub study-spec : {M : Type 1} → statement M
 study-spec =
     tie.close
-    (tie.spec
-    open-file-requires
-    refuse-requires
-    same-length
-    returns
-    cast-points
-    returns-2
-    returns-3
-    study-file-requires
-    same-length-2
-    same-length-3
-    same-length-4
-    returns-4)
+    (tie.spec open-file-requires returns rows-of-requires put-rows-requires same-length returns-2)

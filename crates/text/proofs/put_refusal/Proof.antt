@@ -1,63 +1,58 @@
 -- `put_refusal` meets its contract: the word, and the number behind it. Assumes nothing.
+use Prim.Native.Nat.{_≤_}
+use mathlib.Core.Path.{sym}
 use native.Mathlib.Omega.{arith}
-use borrow.Author.Needs.{needs}
+use lib.ListN.{length}
 use Rattle.rules.specs.Text.{refusalText}
 use Rattle.rules.proofs.Lengths.{field-length, refusal-length}
 use Rattle.text.proofs.Placed.{placed-then}
-use Rattle.text.proofs.Room.{fits, left-out, put-in}
+use Rattle.text.proofs.Room.{refused-by, wrote-all, room-short, room-enough}
 use Rattle.text.proofs.put_refusal.Statement.{statement}
 use Rattle.text.proofs.put_refusal.Tie as tie
 
+-- the text fits
+room : (c : tie.Else1) → let a = c .before .before .before .args in length (refusalText (a .number)) ≤ length (a .buf .now)
+room c = omega (arith, refusal-length (c .before .before .before .args .number))
+
 decimal-length-requires : tie.Need-decimal-length-requires
-decimal-length-requires c κs = search needs
+decimal-length-requires c κs = tt
 
 add-text : tie.Need-add-text
-add-text c = search needs
+add-text c = omega arith
 
 add-text-2 : tie.Need-add-text-2
-add-text-2 c = search needs
+add-text-2 c = omega arith
 
-has-room-requires : tie.Need-has-room-requires
-has-room-requires c κs = search needs
+returns : tie.Need-returns
+returns c =
+    let a = c .before .before .before .args in
+    let text = refusalText (a .number) in
+    refused-by text (a .buf .now) (room-short text (length (a .buf .now)) (omega (arith, refusal-length (a .number)))) (λ z. omega arith)
 
 slice-aggregate-write-bytes : tie.Need-slice-aggregate-write-bytes
-slice-aggregate-write-bytes c = search needs
+slice-aggregate-write-bytes c = omega arith
 
 write-bytes-requires : tie.Need-write-bytes-requires
-write-bytes-requires c κs =
-    let a = c .before .before .before .before .before .before .args in
-    let text = refusalText (a .number) in
-    let long = refusal-length (a .number) in
-    let room = fits (a .buf .now) 0 text (omega arith) (c .before .before .before .has-room .ensures) (c .before .before .if1 .taken) in
-    omega arith
+write-bytes-requires c κs = omega arith
 
 write-field-requires : tie.Need-write-field-requires
 write-field-requires c κs =
-    let a = c .before .before .before .before .before .before .before .before .before .before .args in
-    let text = refusalText (a .number) in
-    let long = refusal-length (a .number) in
-    let room = fits (a .buf .now) 0 text (omega arith) (c .before .before .before .before .before .before .before .has-room .ensures) (c .before .before .before .before .before .before .if1 .taken) in
-    omega (arith, field-length (a .number) 10)
+    let e = c .before .before .before .before .before .before in
+    let number = e .before .before .before .args .number in
+    omega (arith, room e, refusal-length number, field-length number 10)
 
 same-length : tie.Need-same-length
-same-length c = search needs
-
-returns : tie.Need-returns
-unfolding refusalText
-returns c =
-    let a = c .before .before .before .before .before .before .before .before .before .before .before .before .before .args in
-    let text = refusalText (a .number) in
-    let long = refusal-length (a .number) in
-    let room = fits (a .buf .now) 0 text (omega arith) (c .before .before .before .before .before .before .before .before .before .before .has-room .ensures) (c .before .before .before .before .before .before .before .before .before .if1 .taken) in
-    put-in (a .buf .now) 0 text room
-    (placed-then (omega (arith, field-length (a .number) 10)) (c .before .before .before .before .before .before .write-bytes .ensures) (c .before .before .write-field .ensures))
+same-length c = omega arith
 
 returns-2 : tie.Need-returns-2
+unfolding refusalText
 returns-2 c =
-    let a = c .before .before .before .before .args in
-    let text = refusalText (a .number) in
-    let long = refusal-length (a .number) in
-    left-out (a .buf .now) 0 text (omega arith) (c .before .has-room .ensures) (c .if1 .left)
+    let f = c .before .before in
+    let w = f .before .before .before .before in
+    let e = w .before .before .before in
+    let number = e .before .before .before .args .number in
+    wrote-all _ _ (sym (room-enough _ _ (room e)))
+    (placed-then (omega (arith, room e, refusal-length number, field-length number 10)) (w .write-bytes .ensures) (f .write-field .ensures))
 
 pub put-refusal-spec : {M : Type 1} → statement M
 put-refusal-spec =
@@ -66,10 +61,9 @@ put-refusal-spec =
     decimal-length-requires
     add-text
     add-text-2
-    has-room-requires
+    returns
     slice-aggregate-write-bytes
     write-bytes-requires
     write-field-requires
     same-length
-    returns
     returns-2)

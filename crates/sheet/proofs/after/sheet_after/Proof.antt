@@ -4,7 +4,7 @@ use mathlib.Core.Path.{_≡_, refl}
 use native.Mathlib.Omega.{arith}
 use borrow.Author.Needs.{needs}
 use Rattle.rules.specs.Sheet.{released, sheetAfter}
-use Rattle.sheet.specs.Values.{asHold}
+use Rattle.holds.specs.Values.{asHold}
 use Rattle.sheet.proofs.Loops.{at-end, released-none, released-next}
 use Rattle.sheet.proofs.after.sheet_after.Statement.{statement}
 use Rattle.sheet.proofs.after.sheet_after.Tie as tie

@@ -1,14 +1,14 @@
 -- `block_named`: at the loop's test none of the first b blocks binds. Assumes nothing.
 use Prim.Native.Nat.{ℕ, _≤_, _-_, _+_}
 use mathlib.Core.Bool.{Bool}
-use mathlib.Core.Path.{_≡_, sym, _∙_}
+use mathlib.Core.Path.{_≡_, sym, ap, _∙_}
 use native.Mathlib.Numerals.{add-one}
 use native.Mathlib.Omega.{arith}
 use lib.Dec.{eqb}
 use borrow.Author.Count.{below-more}
 use borrow.Author.Needs.{needs}
 use borrow.Author.Tests.{eq-eqb, ne-eqb}
-use Rattle.rules.specs.Count.{entry}
+use Rattle.rules.specs.Count.{entry, countedFrom1}
 use Rattle.rules.specs.Sheet.{blockNamed}
 use Rattle.rules.proofs.Count.{NonePasses, first-none, first-found}
 use Rattle.sheet.proofs.Loops.{at-end}
@@ -51,12 +51,12 @@ unfolding blockNamed
 returns-2 c =
     let a = c .before .before .before .before .before .before .before .args in
     rw (ne-eqb (a .start) 0 (λ z. omega arith), add-one)
-    (sym (first-found _ _ _
+    (ap countedFrom1 (sym (first-found _ _ _
     (record {
       there = search needs;
       passes = sym (c .before .binds .ensures) ∙ c .if2 .taken;
       none-before = c .before .before .before .before .before .loop .inv .1;
-    })))
+    }))))
 
 add-b : tie.Need-add-b Inv-loop μ-loop
 add-b c = search needs
@@ -73,7 +73,7 @@ returns-3 c =
     let a = c .before .before .before .args in
     let test : ℕ → Bool = λ k. eqb (a .start + entry (a .t2 .begins) k) (entry (a .t1 .free) k) in
     let e : c .before .loop .b ≡ a .t1 .blocks = omega arith in
-    rw (ne-eqb (a .start) 0 (λ z. omega arith)) (sym (first-none _ _ (at-end (λ k. NonePasses k test) e (c .before .loop .inv .1))))
+    rw (ne-eqb (a .start) 0 (λ z. omega arith)) (ap countedFrom1 (sym (first-none _ _ (at-end (λ k. NonePasses k test) e (c .before .loop .inv .1)))))
 
 pub block-named-spec : {M : Type 1} → statement M
 block-named-spec =
