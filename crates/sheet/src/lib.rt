@@ -37,6 +37,7 @@ pub struct Addition {
 }
 
 // The number 0 and a fresh sheet, or the number of refusal and a sheet of no blocks.
+#[repr(C)]
 pub struct Opening {
     pub number: u64,
     pub sheet: Sheet,

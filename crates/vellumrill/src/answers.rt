@@ -1,12 +1,13 @@
 // The answers of the sheet's calls in numbers alone.
 use crate::Added;
 use crate::HeadwayAnswer;
+use holds::HoldRecord;
 use sheet::Answer;
-use sheet::HoldRecord;
 use sheet::Sheet;
 ghost use mathlib.Core.Path.{_≡_};
 ghost use Rattle.rules.specs.Calls.{added, headway};
-ghost use Rattle.sheet.specs.Values.{asHold, asSheet, asAnswer};
+ghost use Rattle.holds.specs.Values.{asHold};
+ghost use Rattle.sheet.specs.Values.{asSheet, asAnswer};
 ghost use Rattle.vellumrill.specs.Answers.{addedByNumber, headwayByNumber};
 
 // The answer of an adding call, and the sheet as the call leaves it.
@@ -33,7 +34,9 @@ fn added_by_number(answer: Answer) -> Added
 }
 
 pub(crate) fn step_by_number(sheet: Sheet, hold: HoldRecord) -> Step
-    ensures { λ r. ⌜ (r .answer ≡ addedByNumber (added (asSheet sheet) (asHold hold) .answer)) × (asSheet (r .sheet) ≡ added (asSheet sheet) (asHold hold) .sheet) ⌝ }
+    ensures { λ r. ⌜
+        (r .answer ≡ addedByNumber (added (asSheet sheet) (asHold hold) .answer))
+        × (asSheet (r .sheet) ≡ added (asSheet sheet) (asHold hold) .sheet) ⌝ }
 {
     let done = sheet::with_hold(sheet, hold);
     let after = done.sheet;

@@ -1,35 +1,25 @@
 // The calls for C and Rust. A slice crosses as a pointer and its length. Number 0 means accepted.
 mod answers;
-mod part;
 
 use answers::headway_by_number;
 use answers::step_by_number;
-use part::record_part;
-use sheet::HoldRecord;
+use hold::HoldAnswer;
+use holds::HoldRecord;
+use line::RecordPlace;
+use sheet::Opening;
 use sheet::Sheet;
 ghost use mathlib.Core.Path.{_≡_};
-ghost use lib.ListN.{length, take, drop};
-ghost use Rattle.rules.specs.Calls.{fileRefusal, trainRefusal, trainRecord, runRefusal, speedsAfter, timesAfter, held, opened, added, headway};
+ghost use lib.ListN.{length, take};
+ghost use Rattle.rules.specs.Calls.{fileRefusal, trainRefusal, recordPlace, runRefusal, speedsAfter, timesAfter, held, opened, added, headway};
 ghost use Rattle.rules.specs.Demand.{ThirdDemand};
 ghost use Rattle.rules.specs.File.{pointCount};
 ghost use Rattle.rules.specs.Line.{lineOf, trainOf};
 ghost use Rattle.rules.specs.Time.{FastestRun};
-ghost use Rattle.sheet.specs.Values.{asHold, asSheet};
-ghost use Rattle.vellumrill.specs.Answers.{asHolding, asOpening, addedByNumber, headwayByNumber, recordStart, recordLength};
-
-// The hold record, of no blocks on a refusal.
-#[repr(C)]
-pub struct HoldAnswer {
-    pub number: u64,
-    pub hold: HoldRecord,
-}
-
-// The sheet, of no blocks on a refusal.
-#[repr(C)]
-pub struct Opened {
-    pub number: u64,
-    pub sheet: Sheet,
-}
+ghost use Rattle.hold.specs.Calls.{asHoldAnswer};
+ghost use Rattle.holds.specs.Values.{asHold};
+ghost use Rattle.line.specs.Answers.{asRecordPlace};
+ghost use Rattle.sheet.specs.Values.{asOpening, asSheet};
+ghost use Rattle.vellumrill.specs.Answers.{addedByNumber, headwayByNumber};
 
 // The least start and the block named, 0 and 0 on a refusal.
 #[repr(C)]
@@ -48,7 +38,7 @@ pub struct HeadwayAnswer {
 
 // Rules 1 to 9.
 #[no_mangle]
-pub extern "C" fn vr_check_file(file: &[u8]) -> u8
+pub extern "C" fn vr_check_file(file: &[u8]) -> u64
     ensures { λ r. ⌜ r ≡ fileRefusal (now (file .entry)) ⌝ }
 {
     line::check_file(file)
@@ -56,34 +46,30 @@ pub extern "C" fn vr_check_file(file: &[u8]) -> u8
 
 // Rules 1 to 10.
 #[no_mangle]
-pub extern "C" fn vr_check_train(file: &[u8], k: u64) -> u8
+pub extern "C" fn vr_check_train(file: &[u8], k: u64) -> u64
     ensures { λ r. ⌜ r ≡ trainRefusal (now (file .entry)) k ⌝ }
 {
     line::check_train(file, k)
 }
 
-// Rules 1 to 10. The record of train k is the part of the file that begins at byte `start` and has `bytes` bytes.
+// Rules 1 to 10. The record of train k is the part of the file that begins at byte `start` and has `bytes` bytes; 0 and 0 on a refusal.
 #[no_mangle]
-pub extern "C" fn vr_train_record(file: &[u8], k: u64, start: &mut u64, bytes: &mut u64) -> u8
-    ensures number { λ r. ⌜ r ≡ trainRefusal (now (file .entry)) k ⌝ }
-    ensures start { λ r. ⌜ now (start .exit) ≡ recordStart (now (file .entry)) k ⌝ }
-    ensures bytes { λ r. ⌜ now (bytes .exit) ≡ recordLength (now (file .entry)) k ⌝ }
-    ensures part { λ r. ⌜ take (now (bytes .exit)) (drop (now (start .exit)) (now (file .entry))) ≡ trainRecord (now (file .entry)) k ⌝ }
+pub extern "C" fn vr_train_record(file: &[u8], k: u64) -> RecordPlace
+    ensures { λ r. ⌜ asRecordPlace r ≡ recordPlace (now (file .entry)) k ⌝ }
 {
-    let part = record_part(file, k);
-    *start = part.start;
-    *bytes = part.bytes;
-    part.number
+    line::record_place(file, k)
 }
 
 // The run call, rules 1 to 11. Of an accepted call the first P entries of `speeds` are the run, those of `times` its arrivals; no permitted
 // rival reaches a point before. A refusal leaves both buffers as they came.
 #[no_mangle]
-pub extern "C" fn vr_run(file: &[u8], k: u64, speeds: &mut [u32], times: &mut [u64]) -> u8
+pub extern "C" fn vr_run(file: &[u8], k: u64, speeds: &mut [u32], times: &mut [u64]) -> u64
     ensures number { λ r. ⌜ r ≡ runRefusal (now (file .entry)) k (length (now (speeds .entry))) (length (now (times .entry))) ⌝ }
     ensures speeds { λ r. ⌜ now (speeds .exit) ≡ speedsAfter (now (file .entry)) k (now (speeds .entry)) (now (times .entry)) ⌝ }
     ensures times { λ r. ⌜ now (times .exit) ≡ timesAfter (now (file .entry)) k (now (speeds .entry)) (now (times .entry)) ⌝ }
-    ensures fastest { λ r. ⌜ (r ≡ 0 → FastestRun (lineOf (now (file .entry))) (trainOf (now (file .entry)) k) (take (pointCount (now (file .entry))) (now (speeds .exit))) (take (pointCount (now (file .entry))) (now (times .exit)))) ⌝ }
+    ensures fastest { λ r. ⌜ (r ≡ 0 →
+        FastestRun (lineOf (now (file .entry))) (trainOf (now (file .entry)) k) (take (pointCount (now (file .entry))) (now (speeds .exit)))
+        (take (pointCount (now (file .entry))) (now (times .exit)))) ⌝ }
 {
     run::run(file, k, speeds, times)
 }
@@ -91,36 +77,28 @@ pub extern "C" fn vr_run(file: &[u8], k: u64, speeds: &mut [u32], times: &mut [u
 // The hold call, rules 1 to 11. The buffers end as after the run call.
 #[no_mangle]
 pub extern "C" fn vr_hold(file: &[u8], k: u64, speeds: &mut [u32], times: &mut [u64]) -> HoldAnswer
-    ensures answer { λ r. ⌜ asHolding r ≡ held (now (file .entry)) k (length (now (speeds .entry))) (length (now (times .entry))) ⌝ }
+    ensures answer { λ r. ⌜ asHoldAnswer r ≡ held (now (file .entry)) k (length (now (speeds .entry))) (length (now (times .entry))) ⌝ }
     ensures speeds { λ r. ⌜ now (speeds .exit) ≡ speedsAfter (now (file .entry)) k (now (speeds .entry)) (now (times .entry)) ⌝ }
     ensures times { λ r. ⌜ now (times .exit) ≡ timesAfter (now (file .entry)) k (now (speeds .entry)) (now (times .entry)) ⌝ }
 {
-    let answer = hold::hold(file, k, speeds, times);
-    let hold = answer.hold;
-    HoldAnswer {
-        number: answer.number as u64,
-        hold,
-    }
+    hold::hold(file, k, speeds, times)
 }
 
 // Opens a sheet, rule 12. Every list of adding calls from it meets the third demand.
 #[no_mangle]
-pub extern "C" fn vr_open(blocks: u64) -> Opened
+pub extern "C" fn vr_open(blocks: u64) -> Opening
     ensures sheet { λ r. ⌜ asOpening r ≡ opened blocks ⌝ }
     ensures demand { λ r. ⌜ (r .number ≡ 0 → ThirdDemand blocks (asSheet (r .sheet))) ⌝ }
 {
-    let opening = sheet::open_sheet(blocks);
-    let sheet = opening.sheet;
-    Opened {
-        number: opening.number,
-        sheet,
-    }
+    sheet::open_sheet(blocks)
 }
 
 // The adding call, rules 12 to 14, on a sheet with any contents. The sheet is altered where it lies; a refusal leaves it as it was.
 #[no_mangle]
 pub extern "C" fn vr_add(sheet: &mut Sheet, hold: &HoldRecord) -> Added
-    ensures { λ r. ⌜ (r ≡ addedByNumber (added (asSheet (now (sheet .entry))) (asHold (now (hold .entry))) .answer)) × (asSheet (now (sheet .exit)) ≡ added (asSheet (now (sheet .entry))) (asHold (now (hold .entry))) .sheet) ⌝ }
+    ensures { λ r. ⌜
+        (r ≡ addedByNumber (added (asSheet (now (sheet .entry))) (asHold (now (hold .entry))) .answer))
+        × (asSheet (now (sheet .exit)) ≡ added (asSheet (now (sheet .entry))) (asHold (now (hold .entry))) .sheet) ⌝ }
 {
     let before = *sheet;
     let record = *hold;

@@ -38,13 +38,14 @@ use denote.Triple.Table.{entered, cited}
 use denote.Triple.Walked.{says, Stays, stay-ref, stay-none-ref, walkOf, goes-none-ref, goes-ref, Walks, ends-at, walked, walk-meets}
 use denote.Exit.{yes}
 use Rattle.rules.specs.Calls.{added}
-use Rattle.sheet.specs.Values.{asHold, asSheet}
+use Rattle.holds.specs.Values.{asHold}
+use Rattle.sheet.specs.Values.{asSheet}
 use Rattle.sheet.specs.declared.Sheet.{Sheet}
-use Rattle.sheet.specs.declared.HoldRecord.{HoldRecord}
+use Rattle.holds.specs.declared.HoldRecord.{HoldRecord}
 use Rattle.sheet.proofs.Sheet as S
 use Rattle.sheet.proofs.Sheet.Laws as S′
-use Rattle.sheet.proofs.HoldRecord as R
-use Rattle.sheet.proofs.HoldRecord.Laws as R′
+use Rattle.holds.proofs.HoldRecord as R
+use Rattle.holds.proofs.HoldRecord.Laws as R′
 use Rattle.sheet.proofs.Machine.{sheet-val, hold-val, SheetIs, HoldIs, sheet-makes, hold-makes, sheet-typed, hold-typed}
 use Rattle.vellumrill.specs.Answers.{addedByNumber}
 use Rattle.vellumrill.specs.declared.answers.Step.{Step}

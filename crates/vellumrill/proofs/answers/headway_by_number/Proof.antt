@@ -1,5 +1,5 @@
 use mathlib.Core.Path.{sym, ap, _∙_}
-use Rattle.sheet.specs.Values.{asHeadway}
+use Rattle.sheet.specs.Values.{asHeadwayAnswer}
 use Rattle.sheet.specs.declared.HeadwayAnswer.{HeadwayAnswer}
 use Rattle.vellumrill.specs.Answers.{headwayByNumber}
 use borrow.Author.Needs.{needs}
@@ -16,10 +16,10 @@ enum-known-answer-2 : tie.Need-enum-known-answer-2
 enum-known-answer-2 c = search needs
 
 returns : tie.Need-returns
-returns c = sym (ap (λ (a : HeadwayAnswer). headwayByNumber (asHeadway a)) (c .before .answer .given .1)) ∙ ap headwayByNumber (c .before .before .before .headway .ensures)
+returns c = sym (ap (λ (a : HeadwayAnswer). headwayByNumber (asHeadwayAnswer a)) (c .before .answer .given .1)) ∙ ap headwayByNumber (c .before .before .before .headway .ensures)
 
 returns-2 : tie.Need-returns-2
-returns-2 c = sym (ap (λ (a : HeadwayAnswer). headwayByNumber (asHeadway a)) (c .before .answer2 .given .1)) ∙ ap headwayByNumber (c .before .before .before .headway .ensures)
+returns-2 c = sym (ap (λ (a : HeadwayAnswer). headwayByNumber (asHeadwayAnswer a)) (c .before .answer2 .given .1)) ∙ ap headwayByNumber (c .before .before .before .headway .ensures)
 
 pub headway-by-number-spec : {M : Type 1} → statement M
 headway-by-number-spec =
