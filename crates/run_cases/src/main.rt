@@ -1,7 +1,7 @@
 // Reads files and questions from standard input, and prints what the run call and the hold call answer and what they leave in the buffers
 // lent to them. The input is packed by tests/run_cases.py: how many questions follow the file (8 bytes, low byte first), the file's length
 // (8 bytes), the file, then the questions: the train number and the lengths of the buffers for speeds and times (8 bytes each).
-use sheet::HoldRecord;
+use holds::HoldRecord;
 
 const MOST_FILES: u64 = 100000;
 
@@ -115,7 +115,7 @@ fn print_buffers(speeds: &[u32], times: &[u64]) {
 fn print_run(file: &[u8], k: u64, speeds: &mut [u32], times: &mut [u64]) {
     let number = run::run(file, k, speeds, times);
     io::write_all(1, b"run");
-    print_number(number as u64);
+    print_number(number);
     print_buffers(speeds, times);
     io::write_all(1, b"\n");
 }
@@ -131,7 +131,7 @@ fn print_record(hold: HoldRecord) {
 fn print_hold(file: &[u8], k: u64, speeds: &mut [u32], times: &mut [u64]) {
     let answer = hold::hold(file, k, speeds, times);
     io::write_all(1, b"hold");
-    print_number(answer.number as u64);
+    print_number(answer.number);
     print_buffers(speeds, times);
     let record = answer.hold;
     print_record(record);

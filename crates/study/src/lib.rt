@@ -76,6 +76,7 @@ fn refusal_printed(number: u64) -> ProgramText
 pub fn program_text(input: &[u8]) -> ProgramText
     ensures text { λ r. ⌜ r .text ≡ padded 2390 (programText (now (input .entry))) ⌝ }
     ensures bytes { λ r. ⌜ (r .bytes ≡ length (programText (now (input .entry)))) × (r .bytes ≤ 2390) ⌝ }
+    ensures places { λ r. ⌜ length (r .text) ≡ 2390 ⌝ }
 {
     if MOST_INPUT < input.len() {
         return refusal_printed(2);

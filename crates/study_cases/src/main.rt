@@ -1,23 +1,13 @@
-// Reads files and the lengths of lent buffers from standard input, and prints what the study calls answer and leave. The input is packed by
-// tests/study_cases.py: which call is asked (1 `study`, 2 `study_input`; 8 bytes, low byte first), the lengths of the buffers for speeds,
-// times and text, the file's length (8 bytes each), then the file.
-use study::StudyAnswer;
-
+// Reads files from standard input, and prints what the study calls answer and leave. The input is packed by tests/study_cases.py: how many
+// cases follow, and for each the file's length, the file, the call asked (0 `study`, 1 `program_text`) and how many bytes are lent to it.
+// Each number has 8 bytes, low byte first.
 const MOST_CASES: u64 = 100000;
 
-// What the buffers hold before a call: greater than any squared speed and any arrival, and no byte of a text.
-const NO_SPEED: u32 = 4294967295;
-
-const NO_TIME: u64 = 18446744073709551615;
-
+// What the lent bytes hold before a call: no byte of a text.
 const NO_BYTE: u8 = 255;
 
 fn wide(byte: u8) -> u64 {
     byte as u64
-}
-
-fn wide32(n: u32) -> u64 {
-    n as u64
 }
 
 fn number_of(bytes: &[u8; 8]) -> u64 {
@@ -41,26 +31,6 @@ fn turned(n: u64) -> u64 {
     (n << 7) | (n >> 57)
 }
 
-fn speeds_sum(speeds: &[u32]) -> u64 {
-    let mut sum = 0;
-    let mut i = 0;
-    while i < speeds.len() {
-        sum = std::num::wrapping_add_u64(turned(sum), wide32(speeds[i]));
-        i += 1;
-    }
-    sum
-}
-
-fn times_sum(times: &[u64]) -> u64 {
-    let mut sum = 0;
-    let mut i = 0;
-    while i < times.len() {
-        sum = std::num::wrapping_add_u64(turned(sum), times[i]);
-        i += 1;
-    }
-    sum
-}
-
 fn text_sum(text: &[u8]) -> u64 {
     let mut sum = 0;
     let mut i = 0;
@@ -76,82 +46,60 @@ fn print_number(n: u64) {
     io::print_decimal(1, n);
 }
 
-fn print_sum(sum: u64) {
+fn print_sum(text: &[u8]) {
     io::write_all(1, b" ");
-    io::print_hex(1, sum, 16);
-}
-
-// The number, how many bytes were written, checksums of the whole buffers, and the text.
-fn print_study(answer: StudyAnswer, speeds: &[u32], times: &[u64], text: &[u8]) {
-    io::write_all(1, b"study");
-    print_number(answer.number as u64);
-    print_number(answer.bytes as u64);
-    print_sum(speeds_sum(speeds));
-    print_sum(times_sum(times));
-    print_sum(text_sum(text));
+    io::print_hex(1, text_sum(text), 16);
     io::write_all(1, b"\n");
-    if answer.bytes <= text.len() {
-        io::write_all(1, &text[..answer.bytes]);
-    }
 }
 
-fn ask(call: u64, file: &[u8], speeds: &mut [u32], times: &mut [u64], text: &mut [u8]) {
+fn print_study(file: &[u8], text: &mut [u8]) {
+    let answer = study::study(file, text);
+    io::write_all(1, b"study");
+    print_number(answer.number);
+    print_number(answer.bytes);
+    print_sum(text);
+}
+
+fn print_program(file: &[u8]) {
+    let printed = study::program_text(file);
+    let text = printed.text;
+    let bytes = printed.bytes;
+    io::write_all(1, b"program");
+    print_number(bytes as u64);
+    print_sum(&text[..bytes]);
+}
+
+// Lends the first bytes of a buffer, as many as asked.
+fn answer(file: &[u8], call: u64, lent: u64) {
+    let mut text = [NO_BYTE; 4104];
     if call == 1 {
-        let answer = study::study(file, speeds, times, text);
-        print_study(answer, speeds, times, text);
-    } else {
-        let answer = study::study_input(file, speeds, times, text);
-        print_study(answer, speeds, times, text);
+        print_program(file);
+        return;
+    }
+    if lent <= 4104 {
+        print_study(file, &mut text[..lent as usize]);
     }
 }
 
-// Lends the first entries of three buffers, as many as asked.
-fn lend(call: u64, file: &[u8], speeds_length: u64, times_length: u64, text_length: u64) {
-    let mut speeds = [NO_SPEED; 4104];
-    let mut times = [NO_TIME; 4104];
-    let mut text = [NO_BYTE; 4096];
-    if speeds_length <= 4104 {
-        if times_length <= 4104 {
-            if text_length <= 4096 {
-                ask(
-                    call,
-                    file,
-                    &mut speeds[..speeds_length as usize],
-                    &mut times[..times_length as usize],
-                    &mut text[..text_length as usize],
-                );
-            }
-        }
-    }
-}
-
-// Reads the lengths and a file of at most 65,536 bytes, and asks.
-fn tell(call: u64) {
+// Reads a file of at most 65,536 bytes, and answers the question that follows it.
+fn tell() {
     let mut space = io::large_buffer();
-    let speeds_length = read_number();
-    let times_length = read_number();
-    let text_length = read_number();
     let n = read_number();
     if n <= 65536 {
         io::read_full(0, &mut space[..n as usize]);
-        lend(
-            call,
-            &space[..n as usize],
-            speeds_length,
-            times_length,
-            text_length,
-        );
+        let call = read_number();
+        answer(&space[..n as usize], call, read_number());
     }
 }
 
 fn main() {
+    let asked = read_number();
     let mut cases: u64 = 0;
     while cases < MOST_CASES {
-        let call = read_number();
-        if call == 0 {
+        if asked <= cases {
             return;
         }
-        tell(call);
+        tell();
         cases += 1;
     }
 }

@@ -4,6 +4,7 @@ use lib.ListN.{length, replicate, length-replicate}
 use Prim.Native.Nat.{ℕ, _≤_}
 use mathlib.Core.List.{List}
 use Rattle.rules.specs.Count.{padded}
+use Rattle.rules.proofs.Count.{length-row}
 use Rattle.rules.proofs.Room.{program-most}
 use Rattle.study.specs.Study.{studyRefusal}
 use Rattle.study.proofs.Texts.{printed, counted, number-told, long-printed, refused-printed, sheet-printed}
@@ -24,7 +25,8 @@ returns c =
     let input = test .before .before .args .input .now in
     let e = c .refusal-printed .ensures in
     let same = long-printed input (omega arith) in
-    (e .0 ∙ ap (padded 2390) same, (e .1 ∙ ap length same, omega (arith, e .1, ap length same, program-most input)))
+    let put = e .0 ∙ ap (padded 2390) same in
+    (put, ((e .1 ∙ ap length same, omega (arith, e .1, ap length same, program-most input)), ap length put ∙ length-row _ 2390))
 
 slice-aggregate-study : tie.Need-slice-aggregate-study
 slice-aggregate-study c = search needs
@@ -44,7 +46,8 @@ returns-2 c =
     let input = s .before .before .before .before .args .input .now in
     let e = c .refusal-printed2 .ensures in
     let same = refused-printed input (omega (arith, s .before .before .if1 .left)) _ (omega (arith, length-replicate {A = ℕ} 2390 0)) (told s) (test .if2 .taken) .1 in
-    (e .0 ∙ ap (padded 2390) same, (e .1 ∙ ap length same, omega (arith, e .1, ap length same, program-most input)))
+    let put = e .0 ∙ ap (padded 2390) same in
+    (put, ((e .1 ∙ ap length same, omega (arith, e .1, ap length same, program-most input)), ap length put ∙ length-row _ 2390))
 
 returns-3 : tie.Need-returns-3
 returns-3 c =
@@ -55,7 +58,8 @@ returns-3 c =
     let z = sym (told s) ∙ c .if2 .left in
     let put = printed _ 2390 fits z (e .1 .0) in
     let bytes = counted _ 2390 fits z (e .0) in
-    (put ∙ ap (padded 2390) same, (bytes ∙ ap length same, omega (arith, bytes, fits)))
+    let whole = put ∙ ap (padded 2390) same in
+    (whole, ((bytes ∙ ap length same, omega (arith, bytes, fits)), ap length whole ∙ length-row _ 2390))
 
 pub program-text-spec : {M : Type 1} → statement M
 program-text-spec =

@@ -1,20 +1,19 @@
--- `main` is safe and ends. Assumes nothing.
 use Prim.Native.Nat.{_≤_, _-_}
 use borrow.Author.Needs.{needs}
 use Rattle.study_cases.proofs.main.Statement.{statement}
 use Rattle.study_cases.proofs.main.Tie as tie
 
 abbrev Inv-loop : tie.InvT-loop
-Inv-loop cases₀ cases = cases ≤ 100000
+Inv-loop asked cases₀ cases = cases ≤ 100000
 
 abbrev μ-loop : tie.MeasureT-loop
-μ-loop cases₀ cases = 100000 - cases
-
-loop-holds : tie.Need-loop-holds Inv-loop μ-loop
-loop-holds c = search needs
+μ-loop asked cases₀ cases = 100000 - cases
 
 read-number-requires : tie.Need-read-number-requires Inv-loop μ-loop
 read-number-requires c κs = search needs
+
+loop-holds : tie.Need-loop-holds Inv-loop μ-loop
+loop-holds c = search needs
 
 returns : tie.Need-returns Inv-loop μ-loop
 returns c = search needs
@@ -40,8 +39,8 @@ main-spec =
     (tie.spec
     Inv-loop
     μ-loop
-    loop-holds
     read-number-requires
+    loop-holds
     returns
     tell-requires
     add-cases

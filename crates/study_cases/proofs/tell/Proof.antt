@@ -1,6 +1,6 @@
-use lib.Seq.{length-take-le, length-front}
-use native.Mathlib.Omega.{arith}
 use mathlib.Core.Path.{sym}
+use native.Mathlib.Omega.{arith}
+use lib.Seq.{length-take-le, length-front}
 use borrow.Author.Needs.{needs}
 use Rattle.study_cases.proofs.tell.Statement.{statement}
 use Rattle.study_cases.proofs.tell.Tie as tie
@@ -11,35 +11,32 @@ large-buffer-requires c κs = search needs
 read-number-requires : tie.Need-read-number-requires
 read-number-requires c κs = search needs
 
-read-number-requires-2 : tie.Need-read-number-requires-2
-read-number-requires-2 c κs = search needs
-
-read-number-requires-3 : tie.Need-read-number-requires-3
-read-number-requires-3 c κs = search needs
-
-read-number-requires-4 : tie.Need-read-number-requires-4
-read-number-requires-4 c κs = search needs
-
 array-borrow-prefix-space : tie.Need-array-borrow-prefix-space
 array-borrow-prefix-space c = search needs
 
 slice-aggregate-read-full : tie.Need-slice-aggregate-read-full
-slice-aggregate-read-full c =
-    sym (length-take-le _ (c .before .before .before .before .before .before .large-buffer .result) (search needs))
+slice-aggregate-read-full c = sym (length-take-le _ (c .before .before .before .large-buffer .result) (search needs))
 
 read-full-requires : tie.Need-read-full-requires
 read-full-requires c κs = search needs
 
+read-number-requires-2 : tie.Need-read-number-requires-2
+read-number-requires-2 c κs = search needs
+
 array-share-prefix-space : tie.Need-array-share-prefix-space
 array-share-prefix-space c =
-    omega (arith, length-front (c .before .before .before .before .before .before .before .before .large-buffer .result) (c .before .read-full .last .1 .0) (c .before .before .before .before .read-number4 .result) (c .before .read-full .kept .1 .0))
+    let r = c .before .before in
+    let n = r .before .before .before in
+    omega (arith, length-front (n .before .large-buffer .result) (r .read-full .last .1 .0) (n .read-number .result) (r .read-full .kept .1 .0))
 
-slice-aggregate-lend : tie.Need-slice-aggregate-lend
-slice-aggregate-lend c =
-    sym (length-take-le _ _ (array-share-prefix-space (c .before)))
+slice-aggregate-answer : tie.Need-slice-aggregate-answer
+slice-aggregate-answer c = sym (length-take-le _ _ (array-share-prefix-space (c .before)))
 
-lend-requires : tie.Need-lend-requires
-lend-requires c κs = search needs
+read-number-requires-3 : tie.Need-read-number-requires-3
+read-number-requires-3 c κs = search needs
+
+answer-requires : tie.Need-answer-requires
+answer-requires c κs = search needs
 
 returns : tie.Need-returns
 returns c = search needs
@@ -53,14 +50,13 @@ tell-spec =
     (tie.spec
     large-buffer-requires
     read-number-requires
-    read-number-requires-2
-    read-number-requires-3
-    read-number-requires-4
     array-borrow-prefix-space
     slice-aggregate-read-full
     read-full-requires
+    read-number-requires-2
     array-share-prefix-space
-    slice-aggregate-lend
-    lend-requires
+    slice-aggregate-answer
+    read-number-requires-3
+    answer-requires
     returns
     returns-2)
