@@ -64,7 +64,8 @@ module _ (f : ℕ → ℕ) (n : ℕ) (s : List ℕ) {s′ : List ℕ} (e : s′ 
 -- what an accepted run gives the hold
 module _ (l : Line) (t : Train) (same : Parallel l t) (speeds times : List ℕ) where
   pub run-done :
-      {r : ℕ} {speeds′ times′ : List ℕ} → r ≡ runRefusalOn l t (length speeds) (length times) → r ≡ 0 → speeds′ ≡ speedsOn l t speeds times → times′ ≡ timesOn l t speeds times →
+      {r : ℕ} {speeds′ times′ : List ℕ} → r ≡ runRefusalOn l t (length speeds) (length times) → r ≡ 0 → speeds′ ≡ speedsOn l t speeds times → times′ ≡
+          timesOn l t speeds times →
       Admitted l t × ((l .points ≤ length speeds′) × (l .points ≤ length times′)) × ((k : ℕ) → k < l .points → entry speeds′ k ≡ entry (runRow l t) k) ×
       ((k : ℕ) → k < l .points → entry times′ k ≡ entry (runTimes l t) k)
   unfolding speedsOn timesOn runRow arrivals
@@ -72,13 +73,17 @@ module _ (l : Line) (t : Train) (same : Parallel l t) (speeds times : List ℕ) 
       let n : runRefusalOn l t (length speeds) (length times) ≡ 0 = sym e ∙ z in
       let ok = accepted-on l t (length speeds) (length times) n in
       let s : speeds′ ≡ written speeds 0 (row (runAt l t) (l .points)) = rw (eq-eqb (runRefusalOn l t (length speeds) (length times)) 0 n) at p in
-      let m : times′ ≡ written times 0 (row (arrival l t (row (runAt l t) (l .points))) (l .points)) = rw (eq-eqb (runRefusalOn l t (length speeds) (length times)) 0 n) at q in
-      (on-admitted l t (ok .0) same, (rw (written-long speeds (row (runAt l t) (l .points)) s (rw length-row (ok .1))) (ok .1), rw (written-long times (row (arrival l t (row (runAt l t) (l .points))) (l .points)) m (rw length-row (ok .2))) (ok .2)), written-entries _ _ speeds s (ok .1), written-entries _ _ times m (ok .2))
+      let m : times′ ≡ written times 0 (row (arrival l t (row (runAt l t) (l .points))) (l .points)) =
+          rw (eq-eqb (runRefusalOn l t (length speeds) (length times)) 0 n) at q in
+      (on-admitted l t (ok .0) same, (rw (written-long speeds (row (runAt l t) (l .points)) s (rw length-row (ok .1))) (ok .1), rw
+          (written-long times (row (arrival l t (row (runAt l t) (l .points))) (l .points)) m (rw length-row (ok .2))) (ok .2)),
+          written-entries _ _ speeds s (ok .1), written-entries _ _ times m (ok .2))
 
 -- ---- of a file
 
 module _ (file : List ℕ) (k : ℕ) (speeds times : List ℕ) where
-  pub file-refused : {r : ℕ} {h : Hold} → r ≡ runRefusal file k (length speeds) (length times) → (r ≡ 0 → ⊥) → h ≡ emptyHold → record { number = r; hold = h } ≡ held file k (length speeds) (length times)
+  pub file-refused : {r : ℕ} {h : Hold} → r ≡ runRefusal file k (length speeds) (length times) → (r ≡ 0 → ⊥) → h ≡ emptyHold →
+      record { number = r; hold = h } ≡ held file k (length speeds) (length times)
   unfolding held
   file-refused e n q = rw (ne-eqb (runRefusal file k (length speeds) (length times)) 0 (λ z. n (e ∙ z)), e, q)
 

@@ -43,7 +43,8 @@ zeros : (k : ℕ) → k < 32 → entry (emptyHold .begins) k ≡ 0
 zeros k h = getD-replicate {A = ℕ} 32 k 0 0 h
 
 module _ (l : Line) (t : Train) (a : Admitted l t) where
-  pub holds-first : {h : Hold} {n : ℕ} → h ≡ record { blocks = n; begins = emptyHold .begins; ends = emptyHold .ends } → n ≡ length (l .blockStarts) → Holds l t h 0 0 0
+  pub holds-first : {h : Hold} {n : ℕ} → h ≡ record { blocks = n; begins = emptyHold .begins; ends = emptyHold .ends } → n ≡ length (l .blockStarts) →
+      Holds l t h 0 0 0
   holds-first {h} {n} e m =
       record {
         count = ap (λ (h : Hold). h .blocks) e ∙ m;
@@ -65,7 +66,8 @@ module _ (l : Line) (t : Train) (a : Admitted l t) where
   -- block starts rise
   starts-rise : {j : ℕ} → j < length (l .blockStarts) → (k : ℕ) → k < j → entry (l .blockStarts) k ≤ entry (l .blockStarts) j
   starts-rise {j} h k g =
-      rises-far (entry (l .blockStarts)) (length (l .blockStarts)) (λ k h. omega (arith, a .rule6 .below k (omega arith), a .rule6 .after k h)) k j (omega arith) h
+      rises-far (entry (l .blockStarts)) (length (l .blockStarts)) (λ k h. omega (arith, a .rule6 .below k (omega arith), a .rule6 .after k h)) k j
+          (omega arith) h
 
   module _ {h : Hold} {point next j : ℕ} (r : Holds l t h point next j) (m : j < length (l .blockStarts)) where
     -- the block starts and ends on the line
@@ -73,7 +75,8 @@ module _ (l : Line) (t : Train) (a : Admitted l t) where
     block-on = (a .rule6 .below j m, clears-within l t a j m)
 
     -- with the run's speeds in the buffer s
-    module _ (s : List ℕ) (same : (k : ℕ) → k < l .points → entry s k ≡ entry (runRow l t) k) {loss b : ℕ} (g : loss ≡ brakingLoss l t) (e : b ≡ entry (l .blockStarts) j) where
+    module _ (s : List ℕ) (same : (k : ℕ) → k < l .points → entry s k ≡ entry (runRow l t) k) {loss b : ℕ} (g : loss ≡ brakingLoss l t)
+        (e : b ≡ entry (l .blockStarts) j) where
       on-line : (k : ℕ) → k ≤ b → suc k < l .points
       on-line k n = omega (arith, block-on .0, block-on .1)
 
@@ -81,10 +84,13 @@ module _ (l : Line) (t : Train) (a : Admitted l t) where
       slow-here n z = rw (same point (omega (arith, on-line point n)), g, e) (r .slow (entry (l .blockStarts) j) (starts-rise m) z)
 
       pub approach-asks : l .points ≤ length s →
-          ((loss ≤ 15552000) × (b ≤ 4096) × (b < length s) × (point ≤ b)) × (0 < point → entry s point ≤ loss * (b - point)) × ((k : ℕ) → k < b → entry s k ≤ entry s (suc k) + loss)
+          ((loss ≤ 15552000) × (b ≤ 4096) × (b < length s) × (point ≤ b)) × (0 < point → entry s point ≤ loss * (b - point)) ×
+              ((k : ℕ) → k < b → entry s k ≤ entry s (suc k) + loss)
       approach-asks long =
           let n : point ≤ b = rw e (r .before (entry (l .blockStarts) j) (starts-rise m)) in
-          ((omega (arith, loss-most l t a), omega (arith, on-line b (le-refl b), a .rule3Line .points-most), omega (arith, on-line b (le-refl b)), n), slow-here n, λ k h. omega (arith, same k (omega (arith, on-line k (omega arith))), same (suc k) (on-line k (omega arith)), run-is l t a .permitted .braked k (on-line k (omega arith))))
+          ((omega (arith, loss-most l t a), omega (arith, on-line b (le-refl b), a .rule3Line .points-most), omega (arith, on-line b (le-refl b)), n),
+              slow-here n, λ k h. omega (arith, same k (omega (arith, on-line k (omega arith))), same (suc k) (on-line k (omega arith)),
+              run-is l t a .permitted .braked k (on-line k (omega arith))))
 
       module _ {p : ℕ} (q : p ≡ approachPoint s loss b) where
         pub point-is : p ≡ approachPoint (runRow l t) (brakingLoss l t) (entry (l .blockStarts) j)
@@ -117,14 +123,16 @@ module _ (l : Line) (t : Train) (a : Admitted l t) where
               )
 
     -- the end of the hold
-    module _ (times : List ℕ) (timed : (k : ℕ) → k < l .points → entry times k ≡ entry (runTimes l t) k) {e n : ℕ} (f : e ≡ entry (l .blockEnds) j) (g : n ≡ trainCells l t) where
+    module _ (times : List ℕ) (timed : (k : ℕ) → k < l .points → entry times k ≡ entry (runTimes l t) k) {e n : ℕ} (f : e ≡ entry (l .blockEnds) j)
+        (g : n ≡ trainCells l t) where
       pub clear-on : e + n < l .points
       clear-on = omega (arith, block-on .1)
 
       pub clear-most : entry times (e + n) < 2 ^ 43
       clear-most = omega (arith, timed (e + n) clear-on, entry-times l t (e + n) clear-on, arrival-most l t a (e + n) clear-on)
 
-      pub end-is : {clearing : ℕ} → clearing ≡ 100000 * l .release + 100000 * l .setUp + 5000000 → entry times (e + n) + clearing ≡ holdEnd l t (runRow l t) (entry (l .blockEnds) j)
+      pub end-is : {clearing : ℕ} → clearing ≡ 100000 * l .release + 100000 * l .setUp + 5000000 → entry times (e + n) + clearing ≡
+          holdEnd l t (runRow l t) (entry (l .blockEnds) j)
       unfolding holdEnd
       end-is c =
           let z : e + n ≡ entry (l .blockEnds) j + trainCells l t = omega arith in

@@ -69,7 +69,8 @@ number-here file k at e f g h =
     h ∙ rw (f, here)
 
 pub line-here :
-    (file : List ℕ) {number : ℕ} {d : DecodedFile} → d ≡ decodedFile file → number ≡ refusal (rule 3 (lineSizes (asLine (d .line)) (d .trains)) ∷ lineRules (asLine (d .line))) →
+    (file : List ℕ) {number : ℕ} {d : DecodedFile} → d ≡ decodedFile file → number ≡
+        refusal (rule 3 (lineSizes (asLine (d .line)) (d .trains)) ∷ lineRules (asLine (d .line))) →
     number ≡ refusal (rule 3 (lineSizes (asLine (decodedLine file)) (trainCount file)) ∷ lineRules (asLine (decodedLine file)))
 line-here file e h = h ∙ rw e
 
@@ -125,7 +126,8 @@ module _ (file : List ℕ) (z : refusal (lengthRules file) ≡ 0) where
     not-three q =
         ⊎-elim (λ y. omega (arith, all-numbers, y)) (λ h. omega (arith, all-numbers, h)) (every-beyond (lineOf file) (trainOf file) (trainCount file))
 
-    line-number : refusal (rule 3 (lineSizes (asLine (decodedLine file)) (trainCount file)) ∷ lineRules (asLine (decodedLine file))) ≡ refusal (lineRules (lineOf file))
+    line-number : refusal (rule 3 (lineSizes (asLine (decodedLine file)) (trainCount file)) ∷ lineRules (asLine (decodedLine file))) ≡
+        refusal (lineRules (lineOf file))
     line-number =
         head-kept 3 _ _ (line-sizes-decoded file (trainCount file) ∙ line-kept)
         ∙ ap (λ (l : Line). refusal (lineRules l)) (line-decoded file (trainCount file) line-kept)

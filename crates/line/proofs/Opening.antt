@@ -129,7 +129,8 @@ module _ (file : List ℕ) (k : ℕ) where
           let train = f ∙ ap decodedTrain (part-is file (o .at) ∙ ap (λ (n : ℕ). drop n file) place) in
           rw (eq-eqb (trainRefusal file k) 0 accepted, line, train)
 
-      pub place-found : {n : ℕ} → n ≡ recordSize (partFrom file (o .at)) 0 → _≡_ {A = RecordPlace} (record { number = 0; start = o .at; bytes = n }) (recordPlace file k)
+      pub place-found : {n : ℕ} → n ≡ recordSize (partFrom file (o .at)) 0 →
+          _≡_ {A = RecordPlace} (record { number = 0; start = o .at; bytes = n }) (recordPlace file k)
       unfolding recordPlace
       place-found {n} f =
           let size : n ≡ recordSize file (recordAt file k) =

@@ -7,14 +7,17 @@ use lib.ListN.{getD, take, replicate}
 use Rattle.rules.specs.Count.{_and_, rowFrom, every, within, greatestBelow, lowestFrom, firstBelow, lastBelow, ceilDiv}
 use Rattle.rules.specs.File.{word, words, recordAt}
 use Rattle.rules.specs.Line.{lineOf, trainAt, trainOf}
-use Rattle.rules.specs.Run.{squared, change, brakingLoss, trainCells, limitFrom, cellLimit, lastOr, lowestCovered, capSpeed, listed, capOf, cap, bandStep, bandsStep, tractionStep, forwardSweep, backwardBefore, backwardSweep, forward, runAt, runRow}
+use Rattle.rules.specs.Run.{squared, change, brakingLoss, trainCells, limitFrom, cellLimit, lastOr, lowestCovered, capSpeed, listed, capOf, cap}
+use Rattle.rules.specs.Run.{bandStep, bandsStep, tractionStep, forwardSweep, backwardBefore, backwardSweep, forward, runAt, runRow}
 use Rattle.rules.specs.Time.{nextDigit, rootDigits, root, cellTime, dwellFrom, dwell, arrival, departure, arrivals, runTimes}
 use Rattle.rules.specs.Hold.{Hold, approachPoint, holdBegin, holdEnd, holdWith, holdOf}
 use Rattle.rules.specs.Sheet.{fresh, leastStart, blockNamed, released, sheetAfter}
-use Rattle.rules.specs.Refusal.{firstBroken, refusal, whole, nothingAfter, lineSizes, trainSizes, limitPointsRule, limitsRule, blocksRule, bandsRule, stopsRule, lastBlockRule, decided, trainThere, sheetRule, holdRule}
+use Rattle.rules.specs.Refusal.{firstBroken, refusal, whole, nothingAfter, lineSizes, trainSizes, limitPointsRule, limitsRule, blocksRule, bandsRule}
+use Rattle.rules.specs.Refusal.{stopsRule, lastBlockRule, decided, trainThere, sheetRule, holdRule}
 use Rattle.rules.specs.Calls.{fileRefusal, trainRefusal, trainRecord, accepted, added, opened, headwayOf, headway}
 use Rattle.rules.specs.Demand.{answers}
-use Rattle.rules.specs.Text.{digitsOf, decimal, field, header, trainLine, refusalText, joined, holdsFrom, fileAnswers, runningTime, lineOfTrain, sheetText, programText}
+use Rattle.rules.specs.Text.{digitsOf, decimal, field, header, trainLine, refusalText, joined, holdsFrom, fileAnswers, runningTime, lineOfTrain}
+use Rattle.rules.specs.Text.{sheetText, programText}
 
 -- numbers as a file has them, low byte first
 unfoldable pub bytes : List ℕ → List ℕ
@@ -47,7 +50,9 @@ pub record Marked : Type 0 where
   -- "train start run block", "1 0 69282976 0" and "2 57282976 69282976 2", each with a line feed
   pub m4-text :
       programText sample ≡
-      116 ∷ 114 ∷ 97 ∷ 105 ∷ 110 ∷ 32 ∷ 115 ∷ 116 ∷ 97 ∷ 114 ∷ 116 ∷ 32 ∷ 114 ∷ 117 ∷ 110 ∷ 32 ∷ 98 ∷ 108 ∷ 111 ∷ 99 ∷ 107 ∷ 10 ∷ 49 ∷ 32 ∷ 48 ∷ 32 ∷ 54 ∷ 57 ∷ 50 ∷ 56 ∷ 50 ∷ 57 ∷ 55 ∷ 54 ∷ 32 ∷ 48 ∷ 10 ∷ 50 ∷ 32 ∷ 53 ∷ 55 ∷ 50 ∷ 56 ∷ 50 ∷ 57 ∷ 55 ∷ 54 ∷ 32 ∷ 54 ∷ 57 ∷ 50 ∷ 56 ∷ 50 ∷ 57 ∷ 55 ∷ 54 ∷ 32 ∷ 50 ∷ 10 ∷ []
+      116 ∷ 114 ∷ 97 ∷ 105 ∷ 110 ∷ 32 ∷ 115 ∷ 116 ∷ 97 ∷ 114 ∷ 116 ∷ 32 ∷ 114 ∷ 117 ∷ 110 ∷ 32 ∷ 98 ∷ 108 ∷ 111 ∷ 99 ∷ 107 ∷ 10 ∷ 49 ∷ 32 ∷ 48 ∷ 32 ∷ 54 ∷
+          57 ∷ 50 ∷ 56 ∷ 50 ∷ 57 ∷ 55 ∷ 54 ∷ 32 ∷ 48 ∷ 10 ∷ 50 ∷ 32 ∷ 53 ∷ 55 ∷ 50 ∷ 56 ∷ 50 ∷ 57 ∷ 55 ∷ 54 ∷ 32 ∷ 54 ∷ 57 ∷ 50 ∷ 56 ∷ 50 ∷ 57 ∷ 55 ∷ 54 ∷
+          32 ∷ 50 ∷ 10 ∷ []
   pub m5-zero : root 0 ≡ 0
   pub m5 : root 25920000 ≡ 5091
   pub m6-below : root 12959999 ≡ 3599
@@ -70,7 +75,8 @@ middleLine : List ℕ
 middleLine = 60 ∷ 50 ∷ 4 ∷ 4 ∷ 15 ∷ 25 ∷ 0 ∷ 12 ∷ 20 ∷ 41 ∷ 90 ∷ 60 ∷ 120 ∷ 80 ∷ 0 ∷ 10 ∷ 25 ∷ 37 ∷ 10 ∷ 22 ∷ 37 ∷ 52 ∷ 3 ∷ []
 
 pub middleTrain : ℕ → List ℕ
-middleTrain k = getD ((1 ∷ 180 ∷ 3 ∷ 4 ∷ 40 ∷ 80 ∷ 140 ∷ 110 ∷ 80 ∷ 45 ∷ 0 ∷ 17 ∷ 33 ∷ 59 ∷ 30 ∷ 45 ∷ 20 ∷ 60 ∷ []) ∷ (2 ∷ 330 ∷ 2 ∷ 1 ∷ 30 ∷ 100 ∷ 40 ∷ 20 ∷ 44 ∷ 7 ∷ []) ∷ (0 ∷ 151 ∷ 3 ∷ 1 ∷ 60 ∷ 130 ∷ 160 ∷ 70 ∷ 50 ∷ 30 ∷ 9 ∷ 90 ∷ []) ∷ []) k []
+middleTrain k = getD ((1 ∷ 180 ∷ 3 ∷ 4 ∷ 40 ∷ 80 ∷ 140 ∷ 110 ∷ 80 ∷ 45 ∷ 0 ∷ 17 ∷ 33 ∷ 59 ∷ 30 ∷ 45 ∷ 20 ∷ 60 ∷ []) ∷
+    (2 ∷ 330 ∷ 2 ∷ 1 ∷ 30 ∷ 100 ∷ 40 ∷ 20 ∷ 44 ∷ 7 ∷ []) ∷ (0 ∷ 151 ∷ 3 ∷ 1 ∷ 60 ∷ 130 ∷ 160 ∷ 70 ∷ 50 ∷ 30 ∷ 9 ∷ 90 ∷ []) ∷ []) k []
 
 pub middle : List ℕ
 middle = bytes (middleLine ++ (middleTrain 0 ++ (middleTrain 1 ++ middleTrain 2)))
@@ -84,23 +90,45 @@ pub record Middle : Type 0 where
   pub missing : trainRefusal middle 3 ≡ 10
   pub speeds :
       runRow (lineOf middle) (trainOf middle 0) ≡
-      0 ∷ 14256000 ∷ 24624000 ∷ 34992000 ∷ 45360000 ∷ 55728000 ∷ 64000000 ∷ 69832000 ∷ 67104000 ∷ 59328000 ∷ 51552000 ∷ 43776000 ∷ 36000000 ∷ 31104000 ∷ 23328000 ∷ 15552000 ∷ 7776000 ∷ 0 ∷ 14256000 ∷ 24624000 ∷ 34992000 ∷ 36000000 ∷ 36000000 ∷ 36000000 ∷ 46368000 ∷ 56736000 ∷ 54432000 ∷ 46656000 ∷ 38880000 ∷ 31104000 ∷ 23328000 ∷ 15552000 ∷ 7776000 ∷ 0 ∷ 14256000 ∷ 24624000 ∷ 34992000 ∷ 45360000 ∷ 55728000 ∷ 64000000 ∷ 69832000 ∷ 64000000 ∷ 64000000 ∷ 64000000 ∷ 64000000 ∷ 64000000 ∷ 64000000 ∷ 64000000 ∷ 64000000 ∷ 64000000 ∷ 64000000 ∷ 62208000 ∷ 54432000 ∷ 46656000 ∷ 38880000 ∷ 31104000 ∷ 23328000 ∷ 15552000 ∷ 7776000 ∷ 0 ∷ []
+      0 ∷ 14256000 ∷ 24624000 ∷ 34992000 ∷ 45360000 ∷ 55728000 ∷ 64000000 ∷ 69832000 ∷ 67104000 ∷ 59328000 ∷ 51552000 ∷ 43776000 ∷ 36000000 ∷ 31104000 ∷
+          23328000 ∷ 15552000 ∷ 7776000 ∷ 0 ∷ 14256000 ∷ 24624000 ∷ 34992000 ∷ 36000000 ∷ 36000000 ∷ 36000000 ∷ 46368000 ∷ 56736000 ∷ 54432000 ∷ 46656000 ∷
+          38880000 ∷ 31104000 ∷ 23328000 ∷ 15552000 ∷ 7776000 ∷ 0 ∷ 14256000 ∷ 24624000 ∷ 34992000 ∷ 45360000 ∷ 55728000 ∷ 64000000 ∷ 69832000 ∷ 64000000 ∷
+          64000000 ∷ 64000000 ∷ 64000000 ∷ 64000000 ∷ 64000000 ∷ 64000000 ∷ 64000000 ∷ 64000000 ∷ 64000000 ∷ 62208000 ∷ 54432000 ∷ 46656000 ∷ 38880000 ∷
+          31104000 ∷ 23328000 ∷ 15552000 ∷ 7776000 ∷ 0 ∷ []
   pub enters-at-speed :
       runRow (lineOf middle) (trainOf middle 1) ≡
-      81000000 ∷ 80193600 ∷ 76176000 ∷ 72158400 ∷ 68140800 ∷ 64123200 ∷ 60105600 ∷ 56088000 ∷ 52070400 ∷ 48052800 ∷ 44035200 ∷ 40017600 ∷ 36000000 ∷ 36000000 ∷ 36000000 ∷ 36000000 ∷ 36000000 ∷ 36000000 ∷ 36000000 ∷ 36000000 ∷ 36000000 ∷ 36000000 ∷ 36000000 ∷ 36000000 ∷ 36000000 ∷ 36000000 ∷ 36000000 ∷ 38592000 ∷ 41184000 ∷ 43776000 ∷ 46368000 ∷ 48960000 ∷ 48211200 ∷ 44193600 ∷ 40176000 ∷ 36158400 ∷ 32140800 ∷ 28123200 ∷ 24105600 ∷ 20088000 ∷ 16070400 ∷ 12052800 ∷ 8035200 ∷ 4017600 ∷ 0 ∷ 5184000 ∷ 9000000 ∷ 11592000 ∷ 14184000 ∷ 16776000 ∷ 19368000 ∷ 21960000 ∷ 24552000 ∷ 27144000 ∷ 29736000 ∷ 32328000 ∷ 34920000 ∷ 37512000 ∷ 40104000 ∷ 42696000 ∷ []
+      81000000 ∷ 80193600 ∷ 76176000 ∷ 72158400 ∷ 68140800 ∷ 64123200 ∷ 60105600 ∷ 56088000 ∷ 52070400 ∷ 48052800 ∷ 44035200 ∷ 40017600 ∷ 36000000 ∷
+          36000000 ∷ 36000000 ∷ 36000000 ∷ 36000000 ∷ 36000000 ∷ 36000000 ∷ 36000000 ∷ 36000000 ∷ 36000000 ∷ 36000000 ∷ 36000000 ∷ 36000000 ∷ 36000000 ∷
+          36000000 ∷ 38592000 ∷ 41184000 ∷ 43776000 ∷ 46368000 ∷ 48960000 ∷ 48211200 ∷ 44193600 ∷ 40176000 ∷ 36158400 ∷ 32140800 ∷ 28123200 ∷ 24105600 ∷
+          20088000 ∷ 16070400 ∷ 12052800 ∷ 8035200 ∷ 4017600 ∷ 0 ∷ 5184000 ∷ 9000000 ∷ 11592000 ∷ 14184000 ∷ 16776000 ∷ 19368000 ∷ 21960000 ∷ 24552000 ∷
+          27144000 ∷ 29736000 ∷ 32328000 ∷ 34920000 ∷ 37512000 ∷ 40104000 ∷ 42696000 ∷ []
   pub times :
       runTimes (lineOf middle) (trainOf middle 0) ≡
-      0 ∷ 9536424 ∷ 13656832 ∷ 16966569 ∷ 19812644 ∷ 22348034 ∷ 24675872 ∷ 26876900 ∷ 29052521 ∷ 31317670 ∷ 33736863 ∷ 36346505 ∷ 39200025 ∷ 42309639 ∷ 45769182 ∷ 49873150 ∷ 55221539 ∷ 68134022 ∷ 122670446 ∷ 126790854 ∷ 130100591 ∷ 133121993 ∷ 136121993 ∷ 139121993 ∷ 141932517 ∷ 144442803 ∷ 146857452 ∷ 149391415 ∷ 152146869 ∷ 155194618 ∷ 158654161 ∷ 162758129 ∷ 168106518 ∷ 181019001 ∷ 210555425 ∷ 214675833 ∷ 217985570 ∷ 220831645 ∷ 223367035 ∷ 225694873 ∷ 227895901 ∷ 230096929 ∷ 232346929 ∷ 234596929 ∷ 236846929 ∷ 239096929 ∷ 241346929 ∷ 243596929 ∷ 245846929 ∷ 248096929 ∷ 250346929 ∷ 252612933 ∷ 254971424 ∷ 257505387 ∷ 260260841 ∷ 263308590 ∷ 266768133 ∷ 270872101 ∷ 276220490 ∷ 289132973 ∷ []
-  pub hold-1 : holdOf (lineOf middle) (trainOf middle 0) ≡ fourBlocks (0 ∷ 19812644 ∷ 130100591 ∷ 210555425 ∷ []) (54769182 ∷ 155857452 ∷ 239096929 ∷ 275768133 ∷ [])
+      0 ∷ 9536424 ∷ 13656832 ∷ 16966569 ∷ 19812644 ∷ 22348034 ∷ 24675872 ∷ 26876900 ∷ 29052521 ∷ 31317670 ∷ 33736863 ∷ 36346505 ∷ 39200025 ∷ 42309639 ∷
+          45769182 ∷ 49873150 ∷ 55221539 ∷ 68134022 ∷ 122670446 ∷ 126790854 ∷ 130100591 ∷ 133121993 ∷ 136121993 ∷ 139121993 ∷ 141932517 ∷ 144442803 ∷
+          146857452 ∷ 149391415 ∷ 152146869 ∷ 155194618 ∷ 158654161 ∷ 162758129 ∷ 168106518 ∷ 181019001 ∷ 210555425 ∷ 214675833 ∷ 217985570 ∷ 220831645 ∷
+          223367035 ∷ 225694873 ∷ 227895901 ∷ 230096929 ∷ 232346929 ∷ 234596929 ∷ 236846929 ∷ 239096929 ∷ 241346929 ∷ 243596929 ∷ 245846929 ∷ 248096929 ∷
+          250346929 ∷ 252612933 ∷ 254971424 ∷ 257505387 ∷ 260260841 ∷ 263308590 ∷ 266768133 ∷ 270872101 ∷ 276220490 ∷ 289132973 ∷ []
+  pub hold-1 : holdOf (lineOf middle) (trainOf middle 0) ≡
+      fourBlocks (0 ∷ 19812644 ∷ 130100591 ∷ 210555425 ∷ []) (54769182 ∷ 155857452 ∷ 239096929 ∷ 275768133 ∷ [])
   pub hold-2 : holdOf (lineOf middle) (trainOf middle 1) ≡ fourBlocks (0 ∷ 0 ∷ 40486502 ∷ 73434423 ∷ []) (52486502 ∷ 88047224 ∷ 158146085 ∷ 236879001 ∷ [])
-  pub hold-3 : holdOf (lineOf middle) (trainOf middle 2) ≡ fourBlocks (0 ∷ 132431166 ∷ 174348358 ∷ 196732026 ∷ []) (168348358 ∷ 203381082 ∷ 233221240 ∷ 266971240 ∷ [])
+  pub hold-3 : holdOf (lineOf middle) (trainOf middle 2) ≡
+      fourBlocks (0 ∷ 132431166 ∷ 174348358 ∷ 196732026 ∷ []) (168348358 ∷ 203381082 ∷ 233221240 ∷ 266971240 ∷ [])
   -- header and "1 0 289132973 0", "2 202333710 227879001 4", "3 254820212 264721240 1"
   pub text :
       programText middle ≡
-      header ++ (49 ∷ 32 ∷ 48 ∷ 32 ∷ 50 ∷ 56 ∷ 57 ∷ 49 ∷ 51 ∷ 50 ∷ 57 ∷ 55 ∷ 51 ∷ 32 ∷ 48 ∷ 10 ∷ 50 ∷ 32 ∷ 50 ∷ 48 ∷ 50 ∷ 51 ∷ 51 ∷ 51 ∷ 55 ∷ 49 ∷ 48 ∷ 32 ∷ 50 ∷ 50 ∷ 55 ∷ 56 ∷ 55 ∷ 57 ∷ 48 ∷ 48 ∷ 49 ∷ 32 ∷ 52 ∷ 10 ∷ 51 ∷ 32 ∷ 50 ∷ 53 ∷ 52 ∷ 56 ∷ 50 ∷ 48 ∷ 50 ∷ 49 ∷ 50 ∷ 32 ∷ 50 ∷ 54 ∷ 52 ∷ 55 ∷ 50 ∷ 49 ∷ 50 ∷ 52 ∷ 48 ∷ 32 ∷ 49 ∷ 10 ∷ [])
+      header ++ (49 ∷ 32 ∷ 48 ∷ 32 ∷ 50 ∷ 56 ∷ 57 ∷ 49 ∷ 51 ∷ 50 ∷ 57 ∷ 55 ∷ 51 ∷ 32 ∷ 48 ∷ 10 ∷ 50 ∷ 32 ∷ 50 ∷ 48 ∷ 50 ∷ 51 ∷ 51 ∷ 51 ∷ 55 ∷ 49 ∷ 48 ∷
+          32 ∷ 50 ∷ 50 ∷ 55 ∷ 56 ∷ 55 ∷ 57 ∷ 48 ∷ 48 ∷ 49 ∷ 32 ∷ 52 ∷ 10 ∷ 51 ∷ 32 ∷ 50 ∷ 53 ∷ 52 ∷ 56 ∷ 50 ∷ 48 ∷ 50 ∷ 49 ∷ 50 ∷ 32 ∷ 50 ∷ 54 ∷ 52 ∷ 55 ∷
+          50 ∷ 49 ∷ 50 ∷ 52 ∷ 48 ∷ 32 ∷ 49 ∷ 10 ∷ [])
 
 pub tables : Marked × Middle
-unfolding bytes sampleLine sampleTrain sampleWith sample middleLine middleTrain middle _and_ rowFrom every within greatestBelow lowestFrom firstBelow lastBelow ceilDiv word words recordAt lineOf trainAt squared change brakingLoss trainCells limitFrom cellLimit lastOr lowestCovered capSpeed listed capOf cap bandStep bandsStep tractionStep forwardSweep backwardBefore backwardSweep forward runAt runRow nextDigit rootDigits root cellTime dwellFrom dwell arrival departure arrivals approachPoint holdBegin holdEnd holdWith fresh leastStart blockNamed released sheetAfter firstBroken refusal whole nothingAfter lineSizes trainSizes limitPointsRule limitsRule blocksRule bandsRule stopsRule lastBlockRule decided trainThere sheetRule holdRule fileRefusal trainRefusal trainRecord added opened headway answers digitsOf decimal field header trainLine refusalText joined holdsFrom fileAnswers runningTime lineOfTrain sheetText programText
+unfolding bytes sampleLine sampleTrain sampleWith sample middleLine middleTrain middle _and_ rowFrom every within greatestBelow lowestFrom firstBelow
+    lastBelow ceilDiv word words recordAt lineOf trainAt squared change brakingLoss trainCells limitFrom cellLimit lastOr lowestCovered capSpeed listed
+    capOf cap bandStep bandsStep tractionStep forwardSweep backwardBefore backwardSweep forward runAt runRow nextDigit rootDigits root cellTime dwellFrom
+    dwell arrival departure arrivals approachPoint holdBegin holdEnd holdWith fresh leastStart blockNamed released sheetAfter firstBroken refusal whole
+    nothingAfter lineSizes trainSizes limitPointsRule limitsRule blocksRule bandsRule stopsRule lastBlockRule decided trainThere sheetRule holdRule
+    fileRefusal trainRefusal trainRecord added opened headway answers digitsOf decimal field header trainLine refusalText joined holdsFrom fileAnswers
+    runningTime lineOfTrain sheetText programText
 tables = (
   record {
     m1 = refl;
@@ -124,5 +152,6 @@ tables = (
     m11 = refl;
     m12 = refl;
   },
-  record { taken = refl; train = refl; missing = refl; speeds = refl; enters-at-speed = refl; times = refl; hold-1 = refl; hold-2 = refl; hold-3 = refl; text = refl },
+  record { taken = refl; train = refl; missing = refl; speeds = refl; enters-at-speed = refl; times = refl; hold-1 = refl; hold-2 = refl; hold-3 =
+      refl; text = refl },
 )

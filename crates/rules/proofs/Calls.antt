@@ -88,7 +88,8 @@ written-is buffer at values h =
       before = λ i l. List·getD-append (take at buffer) (values ++ rest) 0 i (rw front l) ∙ getD-take at buffer i 0 l;
       behind = λ i l.
           let e : i ≡ at + (length values + (i - (at + length values))) = omega arith in
-          rw e (shifted (length values + (i - (at + length values))) ∙ getD-append-add values rest (i - (at + length values)) 0 ∙ getD-drop (at + length values) buffer (i - (at + length values)) 0 ∙ ap (λ (j : ℕ). getD buffer j 0) (omega arith));
+          rw e (shifted (length values + (i - (at + length values))) ∙ getD-append-add values rest (i - (at + length values)) 0 ∙
+              getD-drop (at + length values) buffer (i - (at + length values)) 0 ∙ ap (λ (j : ℕ). getD buffer j 0) (omega arith));
       places = simp (length-append, length-take, length-drop) (omega arith);
     }
   where
@@ -99,7 +100,8 @@ written-is buffer at values h =
     front = length-take-le at buffer (omega arith)
 
     shifted : (i : ℕ) → entry (take at buffer ++ (values ++ rest)) (at + i) ≡ entry (values ++ rest) i
-    shifted i = let g : entry (take at buffer ++ (values ++ rest)) (length (take at buffer) + i) ≡ entry (values ++ rest) i = getD-append-add (take at buffer) (values ++ rest) i 0 in rw front at g
+    shifted i = let g : entry (take at buffer ++ (values ++ rest)) (length (take at buffer) + i) ≡ entry (values ++ rest) i =
+        getD-append-add (take at buffer) (values ++ rest) i 0 in rw front at g
 
 module _ (file : List ℕ) (k : ℕ) (speeds times : List ℕ) where
   pub run-writes :
@@ -109,6 +111,7 @@ module _ (file : List ℕ) (k : ℕ) (speeds times : List ℕ) where
   unfolding speedsAfter timesAfter
   run-writes z = let e = eq-eqb (runRefusal file k (length speeds) (length times)) 0 z in (rw e, rw e)
 
-  pub run-leaves : (runRefusal file k (length speeds) (length times) ≡ 0 → ⊥) → (speedsAfter file k speeds times ≡ speeds) × (timesAfter file k speeds times ≡ times)
+  pub run-leaves : (runRefusal file k (length speeds) (length times) ≡ 0 → ⊥) → (speedsAfter file k speeds times ≡ speeds) ×
+      (timesAfter file k speeds times ≡ times)
   unfolding speedsAfter timesAfter
   run-leaves h = let e = ne-eqb (runRefusal file k (length speeds) (length times)) 0 h in (rw e, rw e)

@@ -19,7 +19,8 @@ use Rattle.rules.proofs.Step.{squared-mono, squared-least, squared-most
 
 -- ---- limits
 
-limit-at : (v : ℕ) (ps ks : List ℕ) → ((k : ℕ) → suc k < length ps → entry ps k ≤ entry ps (suc k)) → length ps ≡ length ks → (k c : ℕ) → k < length ps → entry ps k ≤ c → (suc k < length ps → c < entry ps (suc k)) → limitFrom v ps ks c ≡ entry ks k
+limit-at : (v : ℕ) (ps ks : List ℕ) → ((k : ℕ) → suc k < length ps → entry ps k ≤ entry ps (suc k)) → length ps ≡ length ks → (k c : ℕ) → k < length ps →
+    entry ps k ≤ c → (suc k < length ps → c < entry ps (suc k)) → limitFrom v ps ks c ≡ entry ks k
 unfolding limitFrom
 limit-at v [] ks r e k c h b u = absurd (omega arith)
 limit-at v (p ∷ ps) [] r e k c h b u = absurd (omega arith)

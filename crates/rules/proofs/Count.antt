@@ -6,12 +6,14 @@ use mathlib.Core.Logic.{_⊎_, inl, inr, ⊎-elim}
 use mathlib.Core.Option.{none, some}
 use mathlib.Core.Path.{_≡_, refl, sym, subst, ap, ap₂, _∙_}
 use native.Mathlib.Decide.{decLe}
-use native.Mathlib.Nat.{le-refl, le-trans, le-suc-iff, le-of-suc-le-suc, eq-or-lt-of-le, le-max-left, le-max-right, max-le, add-zero, zero-add, lt-div-mul-add, div-lt-iff-lt-mul, suc-mul, mul-le-mul-left}
+use native.Mathlib.Nat.{le-refl, le-trans, le-suc-iff, le-of-suc-le-suc, eq-or-lt-of-le, le-max-left, le-max-right, max-le, add-zero, zero-add}
+use native.Mathlib.Nat.{lt-div-mul-add, div-lt-iff-lt-mul, suc-mul, mul-le-mul-left}
 use native.Mathlib.Omega.{arith}
 use lib.Dec.{leb, eqb}
 use lib.ListN.{length}
 use borrow.Author.Tests.{leb-true, le-leb, ne-eqb}
-use Rattle.rules.specs.Count.{_and_, entry, rowFrom, row, every, within, allWithin, belowBy, risesBy, greatestBelow, lowestFrom, orZero, ifPasses, orElse, firstBelow, lastBelow, ceilDiv}
+use Rattle.rules.specs.Count.{_and_, entry, rowFrom, row, every, within, allWithin, belowBy, risesBy, greatestBelow, lowestFrom, orZero}
+use Rattle.rules.specs.Count.{ifPasses, orElse, firstBelow, lastBelow, ceilDiv}
 use Rattle.rules.specs.Meaning.{IsRoundedUp}
 
 -- what holds of each number below n, and of n, holds of each below n + 1
@@ -125,7 +127,8 @@ unfolding greatestBelow
 greatest-attained zero f h = absurd (omega arith)
 greatest-attained (suc n) f h = go (decLe (greatestBelow n f) (f n)) (greatest-attained n f)
   where
-    go : Dec (greatestBelow n f ≤ f n) → (0 < greatestBelow n f → (i : ℕ) × (i < n) × (f i ≡ greatestBelow n f)) → (i : ℕ) × (i < suc n) × (f i ≡ max (greatestBelow n f) (f n))
+    go : Dec (greatestBelow n f ≤ f n) → (0 < greatestBelow n f → (i : ℕ) × (i < n) × (f i ≡ greatestBelow n f)) → (i : ℕ) × (i < suc n) ×
+        (f i ≡ max (greatestBelow n f) (f n))
     go (yes g) r = (n, omega arith, omega arith)
     go (no g) r = let (i, l, e) = r (omega arith) in (i, omega arith, omega arith)
 
@@ -212,7 +215,8 @@ last-passes (suc n) test i l e = go (test n) refl (λ h. last-passes n test i h 
     go false q r =
         let h : i < n = ⊎-elim (λ (z : i ≡ n). absurd (false≢true (sym q ∙ ap test (sym z) ∙ e))) (λ lt. lt) (eq-or-lt-of-le (le-of-suc-le-suc l)) in
         let (j, f) = r h in
-        (j, record { found = ap (λ (b : Bool). orElse (ifPasses b n) (lastBelow n test)) q ∙ f .found; at-least = f .at-least; there = omega (arith, f .there); passes = f .passes })
+        (j, record { found = ap (λ (b : Bool). orElse (ifPasses b n) (lastBelow n test)) q ∙ f .found; at-least = f .at-least; there =
+            omega (arith, f .there); passes = f .passes })
 
 pub last-none : (n : ℕ) (test : ℕ → Bool) → NonePasses n test → lastBelow n test ≡ none
 unfolding lastBelow
@@ -264,4 +268,5 @@ rounded-up a {b} h =
 
 -- a greater divisor, a lesser quotient
 pub ceil-antitone : (a : ℕ) {r s : ℕ} → 0 < r → r ≤ s → ceilDiv a s ≤ ceilDiv a r
-ceil-antitone a {r} {s} h k = let p : 0 < s = omega arith in rounded-up a p .least (ceilDiv a r) (le-trans (rounded-up a h .enough) (mul-le-mul-left (ceilDiv a r) k))
+ceil-antitone a {r} {s} h k = let p : 0 < s = omega arith in
+    rounded-up a p .least (ceilDiv a r) (le-trans (rounded-up a h .enough) (mul-le-mul-left (ceilDiv a r) k))

@@ -28,7 +28,8 @@ same-digits zero k n p q = digits-low zero n (omega arith) ∙ sym (digits-low k
 same-digits (suc j) zero n p q = digits-low (suc j) n (omega arith) ∙ sym (digits-low zero n (omega arith))
 same-digits (suc j) (suc k) n p q = go (decLt n 10) (λ h. same-digits j k (n / 10) (omega arith) (omega arith))
   where
-    go : Dec (n < 10) → (10 ≤ n → digitsOf j (ltb (n / 10) 10) (n / 10) ≡ digitsOf k (ltb (n / 10) 10) (n / 10)) → digitsOf (suc j) (ltb n 10) n ≡ digitsOf (suc k) (ltb n 10) n
+    go : Dec (n < 10) → (10 ≤ n → digitsOf j (ltb (n / 10) 10) (n / 10) ≡ digitsOf k (ltb (n / 10) 10) (n / 10)) → digitsOf (suc j) (ltb n 10) n ≡
+        digitsOf (suc k) (ltb n 10) n
     go (yes h) r = digits-low (suc j) n h ∙ sym (digits-low (suc k) n h)
     go (no h) r =
         let m : 10 ≤ n = omega arith in

@@ -13,7 +13,8 @@ use lib.ListN.{length, take, drop, length-drop}
 use lib.Seq.{getD-drop, take-all}
 use borrow.Author.Tests.{le-leb, lt-leb, leb-true, leb-false}
 use Rattle.rules.specs.Count.{entry}
-use Rattle.rules.specs.File.{AreBytes, word, words, sizesEnd, limitCount, blockCount, trainCount, trainsAt, bandCount, stopCount, recordSize, recordEnd, recordAt, announcedEnd}
+use Rattle.rules.specs.File.{AreBytes, word, words, sizesEnd, limitCount, blockCount, trainCount, trainsAt, bandCount, stopCount, recordSize}
+use Rattle.rules.specs.File.{recordEnd, recordAt, announcedEnd}
 use Rattle.rules.specs.Reading.{Reading, endsEarly, readTo, have, readTrains, readFile}
 use Rattle.rules.specs.Line.{lineOf, trainAt}
 use Rattle.rules.specs.Refusal.{whole, nothingAfter}
@@ -164,12 +165,14 @@ chain file a b e r l m next = go (leb b (length file)) refl
         let h = leb-false b (length file) q in
         ap (have file a) (missing file b r h) ∙ early file a ∙ sym (missing file e (readTo e) (omega arith))
 
-trains : (file : List ℕ) (n k : ℕ) → recordAt file k ≤ length file → readTrains file n (recordAt file k) ≡ have file (recordAt file (n + k)) (readTo (recordAt file (n + k)))
+trains : (file : List ℕ) (n k : ℕ) → recordAt file k ≤ length file → readTrains file n (recordAt file k) ≡
+    have file (recordAt file (n + k)) (readTo (recordAt file (n + k)))
 unfolding readTrains recordAt
 trains file zero k h = rw zero-add (sym (there file (recordAt file k) (readTo (recordAt file k)) h))
 trains file (suc n) k h =
     rw (sym (shift n k))
-    (chain file _ (recordAt file (suc k)) (recordAt file (n + suc k)) _ (omega arith) (records-grow file (suc k) (n + suc k) (omega arith)) (trains file n (suc k)))
+    (chain file _ (recordAt file (suc k)) (recordAt file (n + suc k)) _ (omega arith) (records-grow file (suc k) (n + suc k) (omega arith))
+        (trains file n (suc k)))
   where
     shift : (n k : ℕ) → n + suc k ≡ suc n + k
     shift n k = omega arith

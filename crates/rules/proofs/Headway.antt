@@ -56,5 +56,6 @@ module _ (first second : Hold) (c : countRule (first .blocks) ≡ true) where
     pub headway-of : Rule14 (first .blocks) second → headway first second ≡ headwayOf (leastStart (sheetAfter (fresh (first .blocks)) first 0) second)
     unfolding headway fresh sheetAfter
     headway-of g =
-        let two = added-kept (sheetAfter (fresh (first .blocks)) first 0) second (all-kept (sheetAfter (fresh (first .blocks)) first 0) second .1 (after .keeps, refl, g)) in
+        let two = added-kept (sheetAfter (fresh (first .blocks)) first 0) second
+            (all-kept (sheetAfter (fresh (first .blocks)) first 0) second .1 (after .keeps, refl, g)) in
         rw (opened-fresh (first .blocks) c, one, at-zero, two)

@@ -90,7 +90,8 @@ module _ (speeds : List ℕ) (loss b : ℕ) where
   pub approach-slow : 0 < approachPoint speeds loss b → entry speeds (approachPoint speeds loss b) ≤ loss * (b - approachPoint speeds loss b)
   approach-slow h = go (decLt (loss * (b - approachPoint speeds loss b)) (entry speeds (approachPoint speeds loss b)))
     where
-      go : Dec (loss * (b - approachPoint speeds loss b) < entry speeds (approachPoint speeds loss b)) → entry speeds (approachPoint speeds loss b) ≤ loss * (b - approachPoint speeds loss b)
+      go : Dec (loss * (b - approachPoint speeds loss b) < entry speeds (approachPoint speeds loss b)) →
+          entry speeds (approachPoint speeds loss b) ≤ loss * (b - approachPoint speeds loss b)
       go (yes g) = absurd (omega (arith, approach-is .none (λ i k. omega (arith, approach-is .greatest i k .0 .slow))))
       go (no g) = omega arith
 
@@ -106,7 +107,8 @@ unfolding holdWith holdBegin holdEnd
 hold-is l t speeds m =
     record {
       count = refl;
-      begins = λ j h. (approachPoint speeds (brakingLoss l t) (entry (l .blockStarts) j), approach-is speeds (brakingLoss l t) (entry (l .blockStarts) j), padded-within _ h (omega arith));
+      begins = λ j h. (approachPoint speeds (brakingLoss l t) (entry (l .blockStarts) j), approach-is speeds (brakingLoss l t) (entry (l .blockStarts) j),
+          padded-within _ h (omega arith));
       ends = λ j h. padded-within _ h (omega arith);
       beyond = λ j h. (padded-beyond _ 32 j h, padded-beyond _ 32 j h);
     }

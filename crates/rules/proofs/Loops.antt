@@ -67,14 +67,16 @@ module _ (f : ℕ → ℕ) (n : ℕ) where
   within-row low high = rw (length-row f n) (every-agree _ _ n (λ i l. ap (within low high) (entry-row f n i l)))
 
   pub rises-row : (gap : ℕ) → risesBy gap (length (row f n)) (entry (row f n)) ≡ risesBy gap n f
-  rises-row gap = rw (length-row f n) (every-agree _ _ (n - 1) (λ i l. ap₂ (λ x y. leb (x + gap) y) (entry-row f n i (omega arith)) (entry-row f n (i + 1) (omega arith))))
+  rises-row gap = rw (length-row f n) (every-agree _ _ (n - 1)
+      (λ i l. ap₂ (λ x y. leb (x + gap) y) (entry-row f n i (omega arith)) (entry-row f n (i + 1) (omega arith))))
 
   pub below-row : (g : ℕ → ℕ) (gap : ℕ) → belowBy gap (length (row f n)) (entry (row f n)) (entry (row g n)) ≡ belowBy gap n f (λ i. g (i + 0))
   below-row g gap =
       rw (length-row f n) (every-agree _ _ n (λ i l. ap₂ (λ x y. leb (x + gap) y) (entry-row f n i l) (entry-row g n i l ∙ ap g (omega arith))))
 
   -- at most the others one place on
-  pub below-next-row : (g : ℕ → ℕ) (gap : ℕ) → belowBy gap (length (row g n) - 1) (entry (row f n)) (λ i. entry (row g n) (i + 1)) ≡ belowBy gap (n - 1) f (λ i. g (i + 1))
+  pub below-next-row : (g : ℕ → ℕ) (gap : ℕ) → belowBy gap (length (row g n) - 1) (entry (row f n)) (λ i. entry (row g n) (i + 1)) ≡
+      belowBy gap (n - 1) f (λ i. g (i + 1))
   below-next-row g gap =
       rw (length-row g n) (every-agree _ _ (n - 1) (λ i l. ap₂ (λ x y. leb (x + gap) y) (entry-row f n i (omega arith)) (entry-row g n (i + 1) (omega arith))))
 

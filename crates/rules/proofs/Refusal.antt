@@ -48,7 +48,8 @@ module _ (r : Rule) (rs : List Rule) where
 
 pub first-broken-is : (rules : List Rule) → IsFirstBroken rules (firstBroken rules)
 unfolding firstBroken
-first-broken-is [] = record { none-broken = λ z i l. absurd (omega arith); all-kept = λ h. refl; found = λ n q. let z : _≡_ {A = ℕ} 0 1 = cc in absurd (omega arith) }
+first-broken-is [] = record { none-broken = λ z i l. absurd (omega arith); all-kept = λ h. refl; found = λ n q. let z : _≡_ {A = ℕ} 0 1 = cc in
+    absurd (omega arith) }
 first-broken-is (r ∷ rs) = go (r .kept) refl (first-broken-is rs)
   where
     go : (b : Bool) → r .kept ≡ b → IsFirstBroken rs (firstBroken rs) → IsFirstBroken (r ∷ rs) (cond b (firstBroken rs) (some (r .number)))
@@ -106,9 +107,11 @@ lowest-broken rules s = go (firstBroken rules) (first-broken-is rules)
           lowest = λ j m e. lowest-of n i j a c m e (decLt j i);
         }
       where
-        lowest-of : (n i j : ℕ) → number rules i ≡ n → ((j : ℕ) → j < i → kept rules j ≡ true) → j < length rules → kept rules j ≡ false → Dec (j < i) → n ≤ number rules j
+        lowest-of : (n i j : ℕ) → number rules i ≡ n → ((j : ℕ) → j < i → kept rules j ≡ true) → j < length rules → kept rules j ≡ false → Dec (j < i) →
+            n ≤ number rules j
         lowest-of n i j a c m e (yes h) = absurd (false≢true (sym e ∙ c j h))
-        lowest-of n i j a c m e (no h) = ⊎-elim (λ (q : i ≡ j). rw q at (le-of-eq (sym a))) (λ lt. omega (arith, rising-order 0 rules s i j lt m)) (eq-or-lt-of-le (i-le h))
+        lowest-of n i j a c m e (no h) = ⊎-elim (λ (q : i ≡ j). rw q at (le-of-eq (sym a))) (λ lt. omega (arith, rising-order 0 rules s i j lt m))
+            (eq-or-lt-of-le (i-le h))
           where
             i-le : (j < i → ⊥) → i ≤ j
             i-le g = omega arith

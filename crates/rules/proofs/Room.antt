@@ -48,14 +48,16 @@ bounded-answers s (h ∷ calls) sound (suc k) = bounded-answers (added s h .shee
 module _ (file : List ℕ) (ok : fileRefusal file ≡ 0) where
   bounded-of-file : (k : ℕ) → Bounded (getD (fileAnswers file) k (refused 0))
   unfolding fileAnswers
-  bounded-of-file k = bounded-answers _ (holdsFrom file 0 (trainCount file)) (sound-fresh _ (line-sizes file ok .blocks-least) (line-sizes file ok .blocks-most)) k
+  bounded-of-file k = bounded-answers _ (holdsFrom file 0 (trainCount file))
+      (sound-fresh _ (line-sizes file ok .blocks-least) (line-sizes file ok .blocks-most)) k
 
   running-time-most : (k : ℕ) → k < trainCount file → runningTime file k < 10 ^ 13
   unfolding runningTime
   running-time-most k h =
       let a = admitted file ok k h in
       let last : lineOf file .points - 1 < lineOf file .points = omega (arith, a .rule3Line .points-least) in
-      rw (entry-times (lineOf file) (trainOf file k) (lineOf file .points - 1) last) (omega (arith, arrival-most (lineOf file) (trainOf file k) a (lineOf file .points - 1) last))
+      rw (entry-times (lineOf file) (trainOf file k) (lineOf file .points - 1) last)
+          (omega (arith, arrival-most (lineOf file) (trainOf file k) a (lineOf file .points - 1) last))
 
   line-most : (k : ℕ) → k < trainCount file → length (lineOfTrain file k) ≤ 37
   unfolding lineOfTrain

@@ -13,7 +13,8 @@ use Rattle.rules.specs.Count.{entry}
 use Rattle.rules.specs.Line.{Line, Train}
 use Rattle.rules.specs.Refusal.{lineSizes, trainSizes, limitPointsRule, limitsRule, blocksRule, bandsRule, stopsRule, lastBlockRule}
 use Rattle.rules.specs.Admitted.{Rule3Line, Rule3Train, Rule4, Rule5, Rule6, Rule7, Rule8, Rule9}
-use Rattle.rules.proofs.Count.{and-left, and-right, and-both, within-means, within-holds, all-within-means, all-within-holds, below-means, below-holds, rises-means, rises-holds}
+use Rattle.rules.proofs.Count.{and-left, and-right, and-both, within-means, within-holds, all-within-means, all-within-holds, below-means}
+use Rattle.rules.proofs.Count.{below-holds, rises-means, rises-holds}
 
 -- a step of one from i, in the two ways of writing it
 up : {a b : ℕ} → a + 1 ≤ b → a < b
@@ -108,7 +109,8 @@ rule-6 l = (
       record {
         from-zero = eqb-true (entry (l .blockStarts) 0) 0 (and-left _ _ e);
         below = λ k h. up (below-means 1 _ (entry (l .blockStarts)) (entry (l .blockEnds)) (and-left _ _ e₁) k h);
-        after = λ k h. rw (add-zero, add-one k) at (below-means 0 _ (entry (l .blockEnds)) (λ i. entry (l .blockStarts) (i + 1)) (and-left _ _ e₂) k (omega arith));
+        after = λ k h. rw (add-zero, add-one k) at
+            (below-means 0 _ (entry (l .blockEnds)) (λ i. entry (l .blockStarts) (i + 1)) (and-left _ _ e₂) k (omega arith));
         end-most = λ k h. all-within-means 0 _ _ (entry (l .blockEnds)) (and-right _ _ e₂) k h .1;
       },
   λ r.

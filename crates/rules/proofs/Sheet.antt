@@ -18,7 +18,8 @@ use Rattle.rules.specs.Refusal.{rule, firstBroken, sheetRule, roomRule, 
 use Rattle.rules.specs.Calls.{Addition, refused, accept, refuse, added}
 use Rattle.rules.specs.Admitted.{Rule12, Rule14}
 use Rattle.rules.specs.Meaning.{Binds, IsLeastStart, IsBlockNamed, IsSheetAfter}
-use Rattle.rules.proofs.Count.{NonePasses, FirstPasses, below-suc, and-left, and-right, and-both, every-at, every-all, within-means, within-holds, at-most-greatest, greatest-at-most, greatest-attained, first-found, find-first}
+use Rattle.rules.proofs.Count.{NonePasses, FirstPasses, below-suc, and-left, and-right, and-both, every-at, every-all, within-means}
+use Rattle.rules.proofs.Count.{within-holds, at-most-greatest, greatest-at-most, greatest-attained, first-found, find-first}
 
 -- ---- rules
 

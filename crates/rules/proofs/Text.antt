@@ -54,7 +54,8 @@ file-answers file s r ok k h =
     d .numbers k (rw length-holds h)
     ∙ rw (
       at,
-      rule-13 (length (starts (take k (fileAnswers file)))) .1 (λ e. omega (arith, starts-few (take k (fileAnswers file)), length-take k (fileAnswers file), sizes .trains-most)),
+      rule-13 (length (starts (take k (fileAnswers file)))) .1
+          (λ e. omega (arith, starts-few (take k (fileAnswers file)), length-take k (fileAnswers file), sizes .trains-most)),
       rule-14 _ _ .1 (file-hold file s r ok k h),
     )
 

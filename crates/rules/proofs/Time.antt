@@ -33,13 +33,15 @@ time-antitone L {p} {q} {p′} {q′} h k m = ceil-antitone (720000000 * L) h (o
 
 -- ---- dwells
 
-dwell-at : (ss ds : List ℕ) → ((k : ℕ) → suc k < length ss → entry ss k + 2 ≤ entry ss (suc k)) → length ss ≡ length ds → (k : ℕ) → k < length ss → dwellFrom ss ds (entry ss k) ≡ entry ds k
+dwell-at : (ss ds : List ℕ) → ((k : ℕ) → suc k < length ss → entry ss k + 2 ≤ entry ss (suc k)) → length ss ≡ length ds → (k : ℕ) → k < length ss →
+    dwellFrom ss ds (entry ss k) ≡ entry ds k
 unfolding dwellFrom
 dwell-at [] ds r e k h = absurd (omega arith)
 dwell-at (s ∷ ss) [] r e k h = absurd (omega arith)
 dwell-at (s ∷ ss) (d ∷ ds) r e zero h = rw (eq-eqb s s refl)
 dwell-at (s ∷ ss) (d ∷ ds) r e (suc k) h =
-    let g : entry ss k ≡ s → ⊥ = λ q. omega (arith, r 0 (omega arith), rises-far (entry (s ∷ ss)) (suc (length ss)) (λ j m. omega (arith, r j m)) 1 (suc k) (omega arith) h) in
+    let g : entry ss k ≡ s → ⊥ = λ q. omega (arith, r 0 (omega arith), rises-far (entry (s ∷ ss)) (suc (length ss)) (λ j m. omega (arith, r j m)) 1 (suc k)
+        (omega arith) h) in
     rw (ne-eqb (entry ss k) s g) (dwell-at ss ds (λ j m. r (suc j) (omega arith)) (suc-inj e) k (omega arith))
 
 pub dwell-none : (ss ds : List ℕ) (i : ℕ) → ((k : ℕ) → k < length ss → entry ss k ≡ i → ⊥) → dwellFrom ss ds i ≡ 0
@@ -57,9 +59,11 @@ unfolding dwell
 dwell-is l t a i =
     record {
       at-stop = λ k s p q.
-          let beside : dwellFrom (t .stops) (t .dwells) i ≡ entry (t .dwells) k = rw (← s .here) (dwell-at (t .stops) (t .dwells) (a .rule8 .apart) (a .parallel .stops) k (s .there)) in
+          let beside : dwellFrom (t .stops) (t .dwells) i ≡ entry (t .dwells) k =
+              rw (← s .here) (dwell-at (t .stops) (t .dwells) (a .rule8 .apart) (a .parallel .stops) k (s .there)) in
           rw (ne-eqb i 0 (λ e. omega arith), ne-eqb (suc i) (l .points) (λ e. omega arith), beside);
-      elsewhere = λ h. rw (dwell-none (t .stops) (t .dwells) i (λ k g e. h k (record { there = g; here = e }))) (cond-zero (eqb i 0 || eqb (suc i) (l .points)));
+      elsewhere = λ h. rw (dwell-none (t .stops) (t .dwells) i (λ k g e. h k (record { there = g; here = e })))
+          (cond-zero (eqb i 0 || eqb (suc i) (l .points)));
       first = λ e. rw (eq-eqb i 0 e);
       last = λ e. rw (eq-eqb (suc i) (l .points) e, or-true);
     }
@@ -98,14 +102,16 @@ roots-above-zero zero (suc y) h = omega (arith, root-least 1 {w = suc y} (omega 
 roots-above-zero (suc x) y h = omega (arith, root-least 1 {w = suc x} (omega arith))
 
 module _ (l : Line) (t : Train) where
-  faster : (slow fast : List ℕ) → ((i : ℕ) → i < l .points → entry slow i ≤ entry fast i) → (i : ℕ) → i < l .points → Reaches slow i → arrival l t fast i ≤ arrival l t slow i
+  faster : (slow fast : List ℕ) → ((i : ℕ) → i < l .points → entry slow i ≤ entry fast i) → (i : ℕ) → i < l .points → Reaches slow i →
+      arrival l t fast i ≤ arrival l t slow i
   unfolding arrival
   faster slow fast g zero h r = le-refl 0
   faster slow fast g (suc i) h r =
       omega (
         arith,
         faster slow fast g i (omega arith) (λ j k. r j (omega arith)),
-        time-antitone (l .step) (roots-above-zero (entry slow i) (entry slow (suc i)) (r i (omega arith))) (root-mono (g i (omega arith))) (root-mono (g (suc i) h)),
+        time-antitone (l .step) (roots-above-zero (entry slow i) (entry slow (suc i)) (r i (omega arith))) (root-mono (g i (omega arith)))
+            (root-mono (g (suc i) h)),
       )
 
   module _ (a : Admitted l t) where
@@ -124,7 +130,8 @@ module _ (l : Line) (t : Train) where
 
     time-most : (x y : ℕ) → (2592 ≤ x) ⊎ (2592 ≤ y) → cellTime (l .step) (root x) (root y) ≤ 1440000000
     time-most x y h =
-        let g : 50 ≤ root x + root y = ⊎-elim (λ m. omega (arith, root-least 50 {w = x} (omega arith))) (λ m. omega (arith, root-least 50 {w = y} (omega arith))) h in
+        let g : 50 ≤ root x + root y = ⊎-elim (λ m. omega (arith, root-least 50 {w = x} (omega arith)))
+            (λ m. omega (arith, root-least 50 {w = y} (omega arith))) h in
         cell-time-is (l .step) (root x) (root y) (omega arith) .least 1440000000 (omega arith)
 
     dwell-most : (i k : ℕ) → IsStop t k i → suc i < l .points → dwell l t i ≤ 3600000000
@@ -132,7 +139,8 @@ module _ (l : Line) (t : Train) where
     dwell-most (suc i) k s h = omega (arith, dwell-is l t a (suc i) .at-stop k s (omega arith) h, a .rule8 .dwell-most k (omega arith))
 
     -- 1440 seconds for each cell and an hour for each of the first n stops, where the others are not yet passed
-    arrival-by : (i : ℕ) → i < l .points → (n : ℕ) → ((k : ℕ) → n ≤ k → k < length (t .stops) → i ≤ entry (t .stops) k) → arrival l t (runRow l t) i ≤ 1440000000 * i + 3600000000 * n
+    arrival-by : (i : ℕ) → i < l .points → (n : ℕ) → ((k : ℕ) → n ≤ k → k < length (t .stops) → i ≤ entry (t .stops) k) →
+        arrival l t (runRow l t) i ≤ 1440000000 * i + 3600000000 * n
     unfolding arrival
     arrival-by zero h n f = omega arith
     arrival-by (suc i) h n f =

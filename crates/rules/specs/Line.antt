@@ -3,7 +3,9 @@
 use Prim.Native.Nat.{ℕ}
 use mathlib.Core.List.{List, [], _∷_}
 use Rattle.rules.specs.Count.{entry}
-use Rattle.rules.specs.File.{words, pointCount, stepLength, limitCount, blockCount, setUpTime, releaseTime, limitPointsAt, limitsAt, blockStartsAt, blockEndsAt, classNumber, lengthNumber, bandCount, stopCount, topsAt, ratesAt, stopsAt, dwellsAt, recordAt}
+use Rattle.rules.specs.File.{words, pointCount, stepLength, limitCount, blockCount, setUpTime, releaseTime, limitPointsAt, limitsAt}
+use Rattle.rules.specs.File.{blockStartsAt, blockEndsAt, classNumber, lengthNumber, bandCount, stopCount, topsAt, ratesAt, stopsAt, dwellsAt}
+use Rattle.rules.specs.File.{recordAt}
 
 pub record Line : Type 0 where
   -- P; the points are 0 to P - 1, and cell i lies between points i and i + 1

@@ -60,14 +60,16 @@ module _ (l : Line) (t : Train) where
     long-enough g h = sym (by-buffers ns nt z ∙ rw (le-leb (l .points) ns g, le-leb (l .points) nt h))
 
   module _ (speeds times : List ℕ) where
-    pub buffers-kept : {r : ℕ} → r ≡ runRefusalOn l t (length speeds) (length times) → (r ≡ 0 → ⊥) → (speeds ≡ speedsOn l t speeds times) × (times ≡ timesOn l t speeds times)
+    pub buffers-kept : {r : ℕ} → r ≡ runRefusalOn l t (length speeds) (length times) → (r ≡ 0 → ⊥) → (speeds ≡ speedsOn l t speeds times) ×
+        (times ≡ timesOn l t speeds times)
     unfolding speedsOn timesOn
     buffers-kept e h =
         let q = ne-eqb (runRefusalOn l t (length speeds) (length times)) 0 (λ z. h (e ∙ z)) in
         (rw q, rw q)
 
     pub buffers-written :
-        {speeds′ times′ : List ℕ} → 0 ≡ runRefusalOn l t (length speeds) (length times) → speeds′ ≡ written speeds 0 (runRow l t) → times′ ≡ written times 0 (runTimes l t) →
+        {speeds′ times′ : List ℕ} → 0 ≡ runRefusalOn l t (length speeds) (length times) → speeds′ ≡ written speeds 0 (runRow l t) → times′ ≡
+            written times 0 (runTimes l t) →
         (speeds′ ≡ speedsOn l t speeds times) × (times′ ≡ timesOn l t speeds times)
     unfolding speedsOn timesOn
     buffers-written e p q =
@@ -75,13 +77,15 @@ module _ (l : Line) (t : Train) where
         (rw (z, p), rw (z, q))
 
   -- the first P entries are the run and its arrivals
-  pub first-points : Admitted l t → (speeds times : List ℕ) {speeds′ times′ : List ℕ} → speeds′ ≡ written speeds 0 (runRow l t) → times′ ≡ written times 0 (runTimes l t) →
+  pub first-points : Admitted l t → (speeds times : List ℕ) {speeds′ times′ : List ℕ} → speeds′ ≡ written speeds 0 (runRow l t) → times′ ≡
+      written times 0 (runTimes l t) →
       FastestRun l t (take (l .points) speeds′) (take (l .points) times′)
   unfolding runRow arrivals
   first-points a speeds times p q =
       let s = p ∙ written-row (runAt l t) (l .points) speeds in
       let m = q ∙ written-row (arrival l t (row (runAt l t) (l .points))) (l .points) times in
-      rw (s, m, take-at (row (runAt l t) (l .points)) _ (l .points) (length-row (runAt l t) (l .points)), take-at (row (arrival l t (row (runAt l t) (l .points))) (l .points)) _ (l .points) (length-row _ (l .points)))
+      rw (s, m, take-at (row (runAt l t) (l .points)) _ (l .points) (length-row (runAt l t) (l .points)), take-at
+          (row (arrival l t (row (runAt l t) (l .points))) (l .points)) _ (l .points) (length-row _ (l .points)))
       (fastest l t a)
 
 -- ---- of a file
@@ -96,7 +100,8 @@ module _ (file : List ℕ) (k : ℕ) where
     same-refusal ns nt = by-buffers (lineOf file) (trainOf file k) ns nt (on-kept _ _ of-file) ∙ sym (run-by-buffers file k ns nt z)
 
     pub same-buffers : (speeds times : List ℕ) →
-        (speedsOn (lineOf file) (trainOf file k) speeds times ≡ speedsAfter file k speeds times) × (timesOn (lineOf file) (trainOf file k) speeds times ≡ timesAfter file k speeds times)
+        (speedsOn (lineOf file) (trainOf file k) speeds times ≡ speedsAfter file k speeds times) ×
+            (timesOn (lineOf file) (trainOf file k) speeds times ≡ timesAfter file k speeds times)
     unfolding speedsOn timesOn speedsAfter timesAfter
     same-buffers speeds times = (rw (same-refusal (length speeds) (length times)), rw (same-refusal (length speeds) (length times)))
 

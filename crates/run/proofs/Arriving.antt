@@ -42,7 +42,8 @@ module _ (l : Line) (t : Train) (a : Admitted l t) where
       }
 
   -- the buffer once the last arrival is stored
-  pub arrived-last : {times₀ times : List ℕ} {i next time here : ℕ} → Arrived l t times₀ i next time here times → l .points ≡ suc i → l .points ≤ length times₀ → set times i time ≡ written times₀ 0 (runTimes l t)
+  pub arrived-last : {times₀ times : List ℕ} {i next time here : ℕ} → Arrived l t times₀ i next time here times → l .points ≡ suc i →
+      l .points ≤ length times₀ → set times i time ≡ written times₀ 0 (runTimes l t)
   unfolding arrivals
   arrived-last r e h = fill-written (fill-up (r .filled) (omega arith) e (omega arith) (r .clock)) h
 
@@ -68,7 +69,8 @@ module _ (l : Line) (t : Train) (a : Admitted l t) where
       pub clock-most : time + dwelt + cell < 2 ^ 43
       clock-most = omega (arith, clock-next, arrival-most l t a (suc i) (omega arith))
 
-      pub arrived-next : {after : ℕ} → there ≤ 65535 → Behind (t .stops) after (i + 1) → l .points ≤ length times₀ → Arrived l t times₀ (i + 1) after (time + dwelt + cell) there (set times i time)
+      pub arrived-next : {after : ℕ} → there ≤ 65535 → Behind (t .stops) after (i + 1) → l .points ≤ length times₀ →
+          Arrived l t times₀ (i + 1) after (time + dwelt + cell) there (set times i time)
       arrived-next s n b =
           record {
             point = h;

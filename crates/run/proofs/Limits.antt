@@ -74,7 +74,8 @@ module _ (l : Line) (t : Train) (a : Admitted l t) where
       (λ g b. record {
         there = omega arith;
         begun = q (at + 1) g (omega (arith, same (at + 1) g));
-        unended = λ u. let s : suc at ≡ at + 1 = omega arith in omega (arith, rw s at (f .unended (omega arith)), points-rise (at + 1) (suc (at + 1)) (omega arith) u);
+        unended = λ u. let s : suc at ≡ at + 1 = omega arith in
+            omega (arith, rw s at (f .unended (omega arith)), points-rise (at + 1) (suc (at + 1)) (omega arith) u);
       })
       (λ n. record {
         there = f .there;
@@ -100,7 +101,8 @@ module _ (l : Line) (t : Train) (a : Admitted l t) where
       lowest′ ≡ lowestFrom (entry (l .limits)) top tail′ (head′ + 1 - tail′) → IsCovered l n top (i + 1) head′ tail′ lowest′
   covered-next points count n top i e same u p q r =
       record {
-        head-in = rw p (step points count _ (i + 1) (min (i + 1) (l .points - 2)) (min i (l .points - 2)) e same (u .head-in) (omega arith) (omega arith) (omega arith) (λ k g h. omega (arith, a .rule4 .limit-point-most k (omega arith))));
+        head-in = rw p (step points count _ (i + 1) (min (i + 1) (l .points - 2)) (min i (l .points - 2)) e same (u .head-in) (omega arith) (omega arith)
+            (omega arith) (λ k g h. omega (arith, a .rule4 .limit-point-most k (omega arith))));
         tail-in = rw q (step points count _ (i + 1 - n) (i + 1 - n) (i - n) e same (u .tail-in) (omega arith) (omega arith) (omega arith) (λ k g h. h));
         lowest-is = r;
       }
@@ -131,7 +133,8 @@ module _ (l : Line) (t : Train) (a : Admitted l t) where
             let far = points-far k head q (u .head-in .there) in
             let off = u .tail-in .unended (omega (arith, u .head-in .there)) in
             let near = points-far (suc tail) k (omega arith) (omega (arith, u .head-in .there)) in
-            (entry (l .limitPoints) k, record { from-tail = omega arith; to-head = omega arith; exists = omega arith }, record { there = omega (arith, u .head-in .there); begun = le-refl _; unended = λ m. a .rule4 .rise k m })
+            (entry (l .limitPoints) k, record { from-tail = omega arith; to-head = omega arith; exists = omega arith },
+                record { there = omega (arith, u .head-in .there); begun = le-refl _; unended = λ m. a .rule4 .rise k m })
 
     -- and each cell that it covers has one of them
     covered-by : (c : ℕ) → Covers l t i c → (k : ℕ) × (tail ≤ k) × (k ≤ head) × (cellLimit l c ≡ entry (l .limits) k)

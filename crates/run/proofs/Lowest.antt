@@ -10,7 +10,8 @@ module _ (f : ℕ → ℕ) (m a n : ℕ) where
   lowest-none {k} e = let z : n - k ≡ 0 = omega arith in rw z
 
   -- one value more, from k left to k - 1
-  pub lowest-down : (k : ℕ) → 0 < k → k ≤ n → {v x w : ℕ} → v ≡ lowestFrom f m (a + k) (n - k) → x ≡ f (a + (k - 1)) → w ≡ min x v → w ≡ lowestFrom f m (a + (k - 1)) (n - (k - 1))
+  pub lowest-down : (k : ℕ) → 0 < k → k ≤ n → {v x w : ℕ} → v ≡ lowestFrom f m (a + k) (n - k) → x ≡ f (a + (k - 1)) → w ≡ min x v → w ≡
+      lowestFrom f m (a + (k - 1)) (n - (k - 1))
   unfolding lowestFrom
   lowest-down k p h q r s =
       let more : n - (k - 1) ≡ suc (n - k) = omega arith in

@@ -64,7 +64,8 @@ module _ (line : decodedLine.Line) (train : decodedTrain.Train) (a : Admitted (a
   abbrev t : Train
   t = asTrain train
 
-  pub counts : (1 ≤ line .«limit_count») × (line .«limit_count» ≤ 64) × (train .«stop_count» ≤ 32) × (line .«limit_count» ≡ length (l .limitPoints)) × (train .«stop_count» ≡ length (t .stops))
+  pub counts : (1 ≤ line .«limit_count») × (line .«limit_count» ≤ 64) × (train .«stop_count» ≤ 32) × (line .«limit_count» ≡ length (l .limitPoints)) ×
+      (train .«stop_count» ≡ length (t .stops))
   counts =
       let k = length-row (entry (line .limits)) (line .«limit_count») in
       let p = length-row (entry (line .«limit_points»)) (line .«limit_count») in
@@ -96,5 +97,6 @@ module _ (line : decodedLine.Line) (train : decodedTrain.Train) (a : Admitted (a
       let r = covered-ready w in
       let h : v .head < line .«limit_count» = rw (x .head) (next-below (line .«limit_points») (line .«limit_count») (u .head) (i + 1) (r .0)) in
       let m : v .tail < line .«limit_count» = rw (x .tail) (next-below (line .«limit_points») (line .«limit_count») (u .tail) (i + 1 - n) (r .1)) in
-      covered-next l t a (line .«limit_points») (line .«limit_count») n top i (c .3) (λ k g. sym (entry-row (entry (line .«limit_points»)) (line .«limit_count») k g)) w (x .head) (x .tail)
+      covered-next l t a (line .«limit_points») (line .«limit_count») n top i (c .3)
+          (λ k g. sym (entry-row (entry (line .«limit_points»)) (line .«limit_count») k g)) w (x .head) (x .tail)
       (x .lowest ∙ sym (by-array top (v .tail) (v .head + 1 - v .tail) (omega arith)))

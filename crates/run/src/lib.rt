@@ -8,11 +8,11 @@ mod times;
 mod walk;
 
 use forward::write_forward;
-use values::Line;
-use values::Train;
 use numbers::narrow;
 use sweep::write_backward;
 use times::write_times;
+use values::Line;
+use values::Train;
 use widths::size;
 ghost use mathlib.Core.Path.{_≡_};
 ghost use Prim.Native.Nat.{_≤_};

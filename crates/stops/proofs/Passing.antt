@@ -121,7 +121,8 @@ module _ (stops : List ℕ) {s i : ℕ} (n : NextStop stops s i) where
 
   -- ---- the dwell
 
-  dwell-beside : (ss ds : List ℕ) → length ss ≡ length ds → (s i : ℕ) → ((k : ℕ) → k < s → entry ss k < i) → s < length ss → entry ss s ≡ i → dwellFrom ss ds i ≡ entry ds s
+  dwell-beside : (ss ds : List ℕ) → length ss ≡ length ds → (s i : ℕ) → ((k : ℕ) → k < s → entry ss k < i) → s < length ss → entry ss s ≡ i →
+      dwellFrom ss ds i ≡ entry ds s
   unfolding dwellFrom
   dwell-beside [] ds e s i before h q = absurd (omega arith)
   dwell-beside (x ∷ ss) [] e s i before h q = absurd (omega arith)

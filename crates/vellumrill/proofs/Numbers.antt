@@ -46,12 +46,14 @@ added-accepted s h = go (added s h .answer) (numbered s h)
     go (accepted start block) m z = refl
     go (refused n) m z = absurd (omega (arith, m, z))
 
-pub headway-accepted : (first second : Hold) → headwayByNumber (headway first second) .number ≡ 0 → headway first second ≡ headwayOf (headwayByNumber (headway first second) .headway)
+pub headway-accepted : (first second : Hold) → headwayByNumber (headway first second) .number ≡ 0 → headway first second ≡
+    headwayOf (headwayByNumber (headway first second) .headway)
 unfolding Numbered headway
 headway-accepted first second =
     let opening = opened (first .blocks) in
     let one = added (opening .sheet) first in
-    go (opening .number) (eqb (opening .number) 0) refl (one .answer) (numbered (opening .sheet) first) (added (one .sheet) second .answer) (numbered (one .sheet) second)
+    go (opening .number) (eqb (opening .number) 0) refl (one .answer) (numbered (opening .sheet) first) (added (one .sheet) second .answer)
+        (numbered (one .sheet) second)
   where
     Told : HeadwayAnswer → Type 0
     Told r = headwayByNumber r .number ≡ 0 → r ≡ headwayOf (headwayByNumber r .headway)

@@ -10,7 +10,8 @@ use Rattle.values.specs.Values.{asLine, asTrain}
 use Rattle.holds.specs.Values.{asHold}
 use Rattle.stops.specs.Stops.{Behind, NextStop}
 use Rattle.stops.proofs.Passing.{next-here, dwell-here}
-use Rattle.hold.proofs.Filling.{Holds, holds-first, holds-all, approach-asks, point-is, point-on, begin-is, begin-most, clear-on, clear-most, end-is, holds-on}
+use Rattle.hold.proofs.Filling.{Holds, holds-first, holds-all, approach-asks, point-is, point-on, begin-is, begin-most, clear-on, clear-most}
+use Rattle.hold.proofs.Filling.{end-is, holds-on}
 use borrow.Author.Needs.{needs}
 use Rattle.hold.proofs.hold_record.Statement.{statement}
 use Rattle.hold.proofs.hold_record.Tie as tie
@@ -42,12 +43,14 @@ begun c = c .before .before
 -- G and n
 loss :
     (c : tie.Then1 Inv-loop μ-loop) →
-    c .before .before .before .before .before .before .before .before .before .braking-loss .result ≡ brakingLoss (asLine (start c .args .line)) (asTrain (start c .args .train))
+    c .before .before .before .before .before .before .before .before .before .braking-loss .result ≡
+        brakingLoss (asLine (start c .args .line)) (asTrain (start c .args .train))
 loss c = c .before .before .before .before .before .before .before .before .before .braking-loss .ensures
 
 cells :
     (c : tie.Then1 Inv-loop μ-loop) →
-    c .before .before .before .before .before .before .before .before .train-cells .result ≡ trainCells (asLine (start c .args .line)) (asTrain (start c .args .train))
+    c .before .before .before .before .before .before .before .before .train-cells .result ≡
+        trainCells (asLine (start c .args .line)) (asTrain (start c .args .train))
 cells c = c .before .before .before .before .before .before .before .before .train-cells .ensures
 
 -- one of the blocks
@@ -77,10 +80,12 @@ end-here c = c .size2 .ensures .0 ∙ sym (entry-row _ _ _ (rw length-row at (in
 point-here : (c : tie.After-dwell-at Inv-loop μ-loop) → suc (found c .approach-point .result) < start (in-loop c) .args .line .points
 point-here c =
     let o = in-loop c in
-    point-on _ _ (start o .pre .0) (o .before .before .loop .inv) (in-block o) (start o .args .speeds .now) (start o .pre .1 .1 .0) (loss o) (start-here (sized c)) (found c .approach-point .ensures .0)
+    point-on _ _ (start o .pre .0) (o .before .before .loop .inv) (in-block o) (start o .args .speeds .now) (start o .pre .1 .1 .0) (loss o)
+        (start-here (sized c)) (found c .approach-point .ensures .0)
 
 -- the stops behind it, the next stop, and the dwell
-behind : (c : tie.After-dwell-at Inv-loop μ-loop) → Behind (asTrain (start (in-loop c) .args .train) .stops) (in-loop c .before .before .loop .next) (found c .approach-point .result)
+behind : (c : tie.After-dwell-at Inv-loop μ-loop) →
+    Behind (asTrain (start (in-loop c) .args .train) .stops) (in-loop c .before .before .loop .next) (found c .approach-point .result)
 behind c =
     let b = in-loop c .before .before .loop .inv .behind in
     record { there = b .there; passed = λ k h. omega (arith, b .passed k h, found c .approach-point .ensures .1) }
@@ -104,7 +109,8 @@ dwelt c =
 -- the point where the tail clears the block
 clear-here :
     (c : tie.After-size2 Inv-loop μ-loop) →
-    c .size2 .result + in-loop (begun c) .before .before .before .before .before .before .before .before .train-cells .result < start (in-loop (begun c)) .args .line .points
+    c .size2 .result + in-loop (begun c) .before .before .before .before .before .before .before .before .train-cells .result < start
+        (in-loop (begun c)) .args .line .points
 clear-here c =
     let o = in-loop (begun c) in
     clear-on _ _ (start o .pre .0) (o .before .before .loop .inv) (in-block o) (start o .args .times .now) (start o .pre .1 .1 .1) (end-here c) (cells o)
@@ -135,7 +141,8 @@ size-requires c κs = search needs
 approach-point-requires : tie.Need-approach-point-requires Inv-loop μ-loop
 approach-point-requires c κs =
     let o = c .before in
-    let asked = approach-asks _ _ (start o .pre .0) (o .before .before .loop .inv) (in-block o) (start o .args .speeds .now) (start o .pre .1 .1 .0) (loss o) (start-here c) (start o .pre .1 .0 .0) in
+    let asked = approach-asks _ _ (start o .pre .0) (o .before .before .loop .inv) (in-block o) (start o .args .speeds .now) (start o .pre .1 .1 .0)
+        (loss o) (start-here c) (start o .pre .1 .0 .0) in
     (asked .0, (asked .1, asked .2))
 
 stop-from-requires : tie.Need-stop-from-requires Inv-loop μ-loop
@@ -156,8 +163,9 @@ add-hold c =
     let o = in-loop d in
     omega (
       arith,
-      begin-most _ _ (start o .pre .0) (o .before .before .loop .inv) (in-block o) (start o .args .speeds .now) (start o .pre .1 .1 .0) (loss o) (start-here (sized d)) (found d .approach-point .ensures .0) (start o .args .times .now)
-      (start o .pre .1 .1 .1) (dwelt d),
+      begin-most _ _ (start o .pre .0) (o .before .before .loop .inv) (in-block o) (start o .args .speeds .now) (start o .pre .1 .1 .0) (loss o)
+          (start-here (sized d)) (found d .approach-point .ensures .0) (start o .args .times .now)
+          (start o .pre .1 .1 .1) (dwelt d),
     )
 
 mul-hold-2 : tie.Need-mul-hold-2 Inv-loop μ-loop
@@ -188,7 +196,8 @@ add-hold-3 : tie.Need-add-hold-3 Inv-loop μ-loop
 add-hold-3 c =
     let e = c .before in
     let o = in-loop (begun e) in
-    omega (arith, clear-most _ _ (start o .pre .0) (o .before .before .loop .inv) (in-block o) (start o .args .times .now) (start o .pre .1 .1 .1) (end-here e) (cells o), o .before .before .before .before .before .before .before .clearing-time .ensures .1)
+    omega (arith, clear-most _ _ (start o .pre .0) (o .before .before .loop .inv) (in-block o) (start o .args .times .now) (start o .pre .1 .1 .1)
+        (end-here e) (cells o), o .before .before .before .before .before .before .before .clearing-time .ensures .1)
 
 mul-hold-4 : tie.Need-mul-hold-4 Inv-loop μ-loop
 mul-hold-4 c = omega (arith, few-blocks (in-loop (begun (c .before))))
@@ -209,9 +218,13 @@ loop-again c =
     let o = in-loop d in
     let b = start-here (sized d) in
     let p = found d .approach-point .ensures .0 in
-    holds-on _ _ (start o .pre .0) (o .before .before .loop .inv) (in-block o) (point-is _ _ (start o .pre .0) (o .before .before .loop .inv) (in-block o) (start o .args .speeds .now) (start o .pre .1 .1 .0) (loss o) b p) (next-stop d)
-    (begin-is _ _ (start o .pre .0) (o .before .before .loop .inv) (in-block o) (start o .args .speeds .now) (start o .pre .1 .1 .0) (loss o) b p (start o .args .times .now) (start o .pre .1 .1 .1) (dwelt d))
-    (end-is _ _ (start o .pre .0) (o .before .before .loop .inv) (in-block o) (start o .args .times .now) (start o .pre .1 .1 .1) (end-here e) (cells o) (o .before .before .before .before .before .before .before .clearing-time .ensures .0))
+    holds-on _ _ (start o .pre .0) (o .before .before .loop .inv) (in-block o)
+        (point-is _ _ (start o .pre .0) (o .before .before .loop .inv) (in-block o) (start o .args .speeds .now) (start o .pre .1 .1 .0) (loss o) b p)
+        (next-stop d)
+    (begin-is _ _ (start o .pre .0) (o .before .before .loop .inv) (in-block o) (start o .args .speeds .now) (start o .pre .1 .1 .0) (loss o) b p
+        (start o .args .times .now) (start o .pre .1 .1 .1) (dwelt d))
+    (end-is _ _ (start o .pre .0) (o .before .before .loop .inv) (in-block o) (start o .args .times .now) (start o .pre .1 .1 .1) (end-here e) (cells o)
+        (o .before .before .before .before .before .before .before .clearing-time .ensures .0))
 
 returns : tie.Need-returns Inv-loop μ-loop
 returns c =

@@ -24,21 +24,26 @@ size-requires c κs = search needs
 returns-2 : tie.Need-returns-2
 returns-2 c =
     let a = c .before .before .before .before .before .before .args in
-    let e = short-speeds (asLine (a .line)) (asTrain (a .train)) (length (a .speeds .now)) (length (a .times .now)) (sym (c .before .before .before .refusal-on .ensures) ∙ c .before .before .if1 .left) (omega (arith, c .before .size .ensures .0)) in
+    let e = short-speeds (asLine (a .line)) (asTrain (a .train)) (length (a .speeds .now)) (length (a .times .now))
+        (sym (c .before .before .before .refusal-on .ensures) ∙ c .before .before .if1 .left) (omega (arith, c .before .size .ensures .0)) in
     let kept = buffers-kept (asLine (a .line)) (asTrain (a .train)) (a .speeds .now) (a .times .now) e (λ z. omega arith) in
     (e, (kept .0, (kept .1, λ z. absurd (omega arith))))
 
 returns-3 : tie.Need-returns-3
 returns-3 c =
     let a = c .before .before .before .before .before .before .before .args in
-    let e = short-times (asLine (a .line)) (asTrain (a .train)) (length (a .speeds .now)) (length (a .times .now)) (sym (c .before .before .before .before .refusal-on .ensures) ∙ c .before .before .before .if1 .left) (omega (arith, c .before .before .size .ensures .0)) (omega (arith, c .before .before .size .ensures .0)) in
+    let e = short-times (asLine (a .line)) (asTrain (a .train)) (length (a .speeds .now)) (length (a .times .now))
+        (sym (c .before .before .before .before .refusal-on .ensures) ∙ c .before .before .before .if1 .left)
+        (omega (arith, c .before .before .size .ensures .0)) (omega (arith, c .before .before .size .ensures .0)) in
     let kept = buffers-kept (asLine (a .line)) (asTrain (a .train)) (a .speeds .now) (a .times .now) e (λ z. omega arith) in
     (e, (kept .0, (kept .1, λ z. absurd (omega arith))))
 
 write-run-requires : tie.Need-write-run-requires
 write-run-requires c κs =
     let a = c .before .before .before .before .before .before .before .before .before .args in
-    (on-admitted _ _ (sym (c .before .before .before .before .before .before .refusal-on .ensures) ∙ c .before .before .before .before .before .if1 .left) (decoded-parallel (a .line) (a .train)), (omega (arith, c .before .before .before .before .size .ensures .0, c .before .before .before .if2 .left), omega (arith, c .before .before .before .before .size .ensures .0, c .before .before .if3 .left)))
+    (on-admitted _ _ (sym (c .before .before .before .before .before .before .refusal-on .ensures) ∙ c .before .before .before .before .before .if1 .left)
+        (decoded-parallel (a .line) (a .train)), (omega (arith, c .before .before .before .before .size .ensures .0, c .before .before .before .if2 .left),
+        omega (arith, c .before .before .before .before .size .ensures .0, c .before .before .if3 .left)))
 
 same-length : tie.Need-same-length
 same-length c = search needs
@@ -51,8 +56,13 @@ returns-4 c =
     let a = c .before .before .before .before .before .before .before .before .before .before .before .before .before .before .args in
     let l = asLine (a .line) in
     let t = asTrain (a .train) in
-    let z = (sym (c .before .before .before .before .before .before .before .before .before .before .before .refusal-on .ensures) ∙ c .before .before .before .before .before .before .before .before .before .before .if1 .left) in
-    let e = long-enough l t (length (a .speeds .now)) (length (a .times .now)) z (omega (arith, c .before .before .before .before .before .before .before .before .before .size .ensures .0, c .before .before .before .before .before .before .before .before .if2 .left)) (omega (arith, c .before .before .before .before .before .before .before .before .before .size .ensures .0, c .before .before .before .before .before .before .before .if3 .left)) in
+    let z = (sym (c .before .before .before .before .before .before .before .before .before .before .before .refusal-on .ensures) ∙
+        c .before .before .before .before .before .before .before .before .before .before .if1 .left) in
+    let e = long-enough l t (length (a .speeds .now)) (length (a .times .now)) z
+        (omega (arith, c .before .before .before .before .before .before .before .before .before .size .ensures .0,
+        c .before .before .before .before .before .before .before .before .if2 .left))
+        (omega (arith, c .before .before .before .before .before .before .before .before .before .size .ensures .0,
+        c .before .before .before .before .before .before .before .if3 .left)) in
     let w = c .before .before .before .before .write-run .ensures in
     let kept = buffers-written l t (a .speeds .now) (a .times .now) e (w .0) (w .1) in
     (e, (kept .0, (kept .1, λ y. first-points l t (on-admitted _ _ z (decoded-parallel (a .line) (a .train))) (a .speeds .now) (a .times .now) (w .0) (w .1))))

@@ -15,11 +15,14 @@ use Rattle.run.proofs.write_run.Tie as tie
 abbrev Run : (a : tie.Start) → List ℕ → Type 0
 Run a s = s ≡ runRow (asLine (a .args .line)) (asTrain (a .args .train)) ++ drop (a .args .line .points) (a .args .speeds .now)
 
-run-done : (c : tie.After-write-backward) → Run (c .before .before .before .before .before .before .before .before .before .before .before) (c .write-backward .last .1 .1 .0)
+run-done : (c : tie.After-write-backward) → Run (c .before .before .before .before .before .before .before .before .before .before .before)
+    (c .write-backward .last .1 .1 .0)
 run-done c =
     let a = c .before .before .before .before .before .before .before .before .before .before .before in
-    sweeps-run (asLine (a .args .line)) (asTrain (a .args .train)) (a .args .speeds .now) _ (c .before .before .before .before .before .before .before .write-forward .ensures) _
-    (rw (c .before .before .size .ensures .0, c .before .before .before .narrow .ensures, c .before .before .before .before .braking-loss .ensures) at (c .write-backward .ensures))
+    sweeps-run (asLine (a .args .line)) (asTrain (a .args .train)) (a .args .speeds .now) _
+        (c .before .before .before .before .before .before .before .write-forward .ensures) _
+    (rw (c .before .before .size .ensures .0, c .before .before .before .narrow .ensures, c .before .before .before .before .braking-loss .ensures) at
+        (c .write-backward .ensures))
 
 write-forward-requires : tie.Need-write-forward-requires
 write-forward-requires c κs = search needs
@@ -38,7 +41,8 @@ write-backward-requires c κs =
     let a = c .before .before .before .before .before .before .before .before .before .before in
     let e = c .before .before .before .before .before .before .write-forward .ensures in
     let long = row-long _ _ (a .args .speeds .now) e (a .pre .1 .0) in (
-      (omega (arith, a .pre .0 .rule3Line .points-least, c .before .size .ensures .0), omega (arith, a .pre .1 .0, c .before .size .ensures .0), omega (arith, loss-most _ _ (a .pre .0), c .before .before .narrow .ensures, c .before .before .before .braking-loss .ensures)),
+      (omega (arith, a .pre .0 .rule3Line .points-least, c .before .size .ensures .0), omega (arith, a .pre .1 .0, c .before .size .ensures .0), omega
+          (arith, loss-most _ _ (a .pre .0), c .before .before .narrow .ensures, c .before .before .before .braking-loss .ensures)),
       λ k h. forward-most _ _ _ _ e (a .pre .0) k (omega (arith, c .before .size .ensures .0)),
     )
 

@@ -42,9 +42,10 @@ returns-2 c =
     let e = k .before .before .open-file .ensures in
     let ok = file-accepted _ e (k .if1 .left) in
     let q = file-trains _ e (k .if1 .left) in
-    let buffer = s .before .args .text .now in
-    (study-answer _ ok (r .rows-of .ensures) q buffer (p .put-rows .ensures .0),
-      (study-bytes _ ok (r .rows-of .ensures) q buffer (p .put-rows .ensures .1), λ z. none-refused _ ok (λ i. omega (arith, s .shared-slice-known .given i))))
+    let buffer = s .before .args .text .now in (
+      study-answer _ ok (r .rows-of .ensures) q buffer (p .put-rows .ensures .0),
+      (study-bytes _ ok (r .rows-of .ensures) q buffer (p .put-rows .ensures .1), λ z. none-refused _ ok (λ i. omega (arith, s .shared-slice-known .given i))),
+    )
 
 pub study-spec : {M : Type 1} → statement M
 study-spec =

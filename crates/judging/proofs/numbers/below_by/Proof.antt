@@ -42,7 +42,8 @@ add-if1 : tie.Need-add-if1 Inv-loop μ-loop
 add-if1 c = search needs
 
 returns : tie.Need-returns Inv-loop μ-loop
-returns c = sym (every-broken _ _ (c .before .before .before .before .loop .i) (omega arith) (gap-broken _ (c .before .size2 .ensures .0) (c .before .before .size .ensures .0) (c .if1 .taken)))
+returns c = sym (every-broken _ _ (c .before .before .before .before .loop .i) (omega arith)
+    (gap-broken _ (c .before .size2 .ensures .0) (c .before .before .size .ensures .0) (c .if1 .taken)))
 
 add-i : tie.Need-add-i Inv-loop μ-loop
 add-i c = search needs
@@ -51,7 +52,8 @@ loop-less : tie.Need-loop-less Inv-loop μ-loop
 loop-less c = search needs
 
 loop-again : tie.Need-loop-again Inv-loop μ-loop
-loop-again c = (search needs, every-more _ _ (c .before .before .before .before .loop .inv .1) (gap-kept _ (c .before .size2 .ensures .0) (c .before .before .size .ensures .0) (c .if1 .left)))
+loop-again c = (search needs, every-more _ _ (c .before .before .before .before .loop .inv .1)
+    (gap-kept _ (c .before .size2 .ensures .0) (c .before .before .size .ensures .0) (c .if1 .left)))
 
 returns-2 : tie.Need-returns-2 Inv-loop μ-loop
 returns-2 c = sym (every-done _ (omega arith) (omega arith) (c .before .loop .inv .1))

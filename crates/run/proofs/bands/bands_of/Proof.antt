@@ -13,7 +13,8 @@ use Rattle.run.proofs.bands.bands_of.Tie as tie
 
 abbrev Inv-loop : tie.InvT-loop
 Inv-loop train step count gains₀ mosts₀ k₀ gains squares k =
-    (k ≤ count) × (count ≤ 8) × Filled (λ j. change (entry (train .rates) j) step) 0 k gains₀ gains × Filled (λ j. squared (entry (train .tops) j)) 0 k mosts₀ squares
+    (k ≤ count) × (count ≤ 8) × Filled (λ j. change (entry (train .rates) j) step) 0 k gains₀ gains ×
+        Filled (λ j. squared (entry (train .tops) j)) 0 k mosts₀ squares
 
 abbrev μ-loop : tie.MeasureT-loop
 μ-loop train step count gains₀ mosts₀ k₀ gains squares k = count - k
@@ -75,7 +76,8 @@ loop-again c =
     let o = c .before .before .before .before .before .before .before .loop in (
       search needs,
       search needs,
-      fill-up (o .inv .2) (omega arith) (add-one _) (omega arith) (rw (c .before .before .before .change-over .ensures, c .before .before .before .before .wide2 .ensures .0)),
+      fill-up (o .inv .2) (omega arith) (add-one _) (omega arith)
+          (rw (c .before .before .before .change-over .ensures, c .before .before .before .before .wide2 .ensures .0)),
       fill-up (o .inv .3) (omega arith) (add-one _) (omega arith) (c .squared-of .ensures ∙ ap squared (c .before .wide3 .ensures .0)),
     )
 

@@ -62,7 +62,8 @@ next-stop c =
     next-here (s .args .train .stops) (omega (arith, counts (s .args .line) (s .args .train) (s .pre .0))) (s .pre .0 .rule8 .apart)
     (o .before .loop .inv .2) (c .before .before .before .stop-from .ensures)
 
-stopped : (c : tie.After-cap-of Inv-loop μ-loop) → c .before .stop-here .result ≡ listed (in-loop c .before .loop .i) (asTrain (start (in-loop c) .args .train) .stops)
+stopped : (c : tie.After-cap-of Inv-loop μ-loop) → c .before .stop-here .result ≡
+    listed (in-loop c .before .loop .i) (asTrain (start (in-loop c) .args .train) .stops)
 stopped c =
     let o = in-loop c in
     let s = start o in
@@ -96,9 +97,14 @@ lowest-limit-requires c κs = search needs
 loop-holds : tie.Need-loop-holds Inv-loop μ-loop
 loop-holds c =
     let t = c .before .before .before .before .before in
-    let s = t .before .before .before .before .before .before .before in
-    (omega arith, covered-begun (s .args .line) (s .args .train) (s .pre .0) _ _ (rw (t .last-top .ensures) at (c .lowest-limit .ensures)),
-      behind-first _, before-start _ _, omega arith, fill-none _ _ _)
+    let s = t .before .before .before .before .before .before .before in (
+      omega arith,
+      covered-begun (s .args .line) (s .args .train) (s .pre .0) _ _ (rw (t .last-top .ensures) at (c .lowest-limit .ensures)),
+      behind-first _,
+      before-start _ _,
+      omega arith,
+      fill-none _ _ _,
+    )
 
 stop-from-requires : tie.Need-stop-from-requires Inv-loop μ-loop
 stop-from-requires c κs = search needs
@@ -117,9 +123,10 @@ capped-step-requires c κs =
     let o = in-loop k in
     let s = start o in
     let b = bands o in
-    let m = last-most _ _ (s .pre .0) _ b in
-    ((bands-bounded _ _ (s .pre .0) _ b, o .before .loop .inv .4),
-      (m .0, omega (arith, m .1, cap-here k, cap-top (asLine (s .args .line)) (asTrain (s .args .train)) (o .before .loop .i))))
+    let m = last-most _ _ (s .pre .0) _ b in (
+      (bands-bounded _ _ (s .pre .0) _ b, o .before .loop .inv .4),
+      (m .0, omega (arith, m .1, cap-here k, cap-top (asLine (s .args .line)) (asTrain (s .args .train)) (o .before .loop .i))),
+    )
 
 mul-speeds : tie.Need-mul-speeds Inv-loop μ-loop
 mul-speeds c = omega (arith, near (in-loop (c .before .before .before)))
@@ -154,7 +161,8 @@ loop-again c =
     let here = cap-here k in
     let v = forward-at _ _ p (o .before .loop .i) (o .before .loop .inv .3) here (traction-is _ _ p _ (bands o) _) (step .capped-step .ensures) in (
       omega (arith, o .loop-test .taken),
-      covered-on (a .line) (a .train) p (o .before .loop .i) (o .before .loop .inv .1) (begun o .before .before .train-cells .ensures) (top o) (c .covered-at .ensures),
+      covered-on (a .line) (a .train) p (o .before .loop .i) (o .before .loop .inv .1) (begun o .before .before .train-cells .ensures) (top o)
+          (c .covered-at .ensures),
       behind-on (next-stop k) (omega arith),
       before-next _ _ (o .before .loop .i) v,
       omega (arith, here, cap-most _ _ p (o .before .loop .i), step .capped-step .ensures),

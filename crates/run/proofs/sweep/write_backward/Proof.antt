@@ -65,13 +65,13 @@ loop-again c =
     let a = c .before .before .before .before .before .before in (
       omega arith,
       fill-down (o .inv .1) (omega arith) (omega arith) (omega arith)
-      (omega (
-        arith,
-        c .lesser .ensures,
-        o .inv .1 .under (o .i - 1) (omega arith),
-        o .inv .1 .inside (o .i) (omega arith) (omega arith),
-        backward-next (entry (a .args .speeds .now)) (a .args .loss) (a .args .points) (o .i - 1) (o .i) (omega arith) (omega arith),
-      )),
+          (omega (
+            arith,
+            c .lesser .ensures,
+            o .inv .1 .under (o .i - 1) (omega arith),
+            o .inv .1 .inside (o .i) (omega arith) (omega arith),
+            backward-next (entry (a .args .speeds .now)) (a .args .loss) (a .args .points) (o .i - 1) (o .i) (omega arith) (omega arith),
+          )),
     )
 
 same-length : tie.Need-same-length Inv-loop μ-loop

@@ -145,7 +145,7 @@ add-time-2 c =
     omega (
       arith,
       clock-most _ _ (start o .pre .0) (o .before .loop .inv) (ahead o) (r .root-after .ensures .0) (speed-ahead o) (dwelt d) (w .wide64 .ensures .0)
-      (c .cell-time .ensures),
+          (c .cell-time .ensures),
     )
 
 add-i : tie.Need-add-i Inv-loop μ-loop

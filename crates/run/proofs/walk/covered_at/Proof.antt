@@ -20,7 +20,8 @@ returns : tie.Need-returns
 returns c =
     record {
       head = sym (c .before .before .if1 .taken) ∙ c .before .before .before .before .before .before .next-begun .ensures;
-      tail = sym (c .if2 .taken) ∙ c .before .before .before .before .next-begun2 .ensures ∙ ap (nextBegun _ _ _) (c .before .before .before .before .before .less .ensures);
+      tail = sym (c .if2 .taken) ∙ c .before .before .before .before .next-begun2 .ensures ∙
+          ap (nextBegun _ _ _) (c .before .before .before .before .before .less .ensures);
       lowest = c .before .before .before .before .before .before .before .pre .1;
     }
 

@@ -8,7 +8,8 @@ use Rattle.run.proofs.walk.lowest_limit.Statement.{statement}
 use Rattle.run.proofs.walk.lowest_limit.Tie as tie
 
 abbrev Inv-loop : tie.InvT-loop
-Inv-loop limits top tail head lowest₀ left₀ lowest left = (left ≤ head + 1 - tail) × (lowest ≡ lowestFrom (entry limits) top (tail + left) (head + 1 - tail - left))
+Inv-loop limits top tail head lowest₀ left₀ lowest left = (left ≤ head + 1 - tail) ×
+    (lowest ≡ lowestFrom (entry limits) top (tail + left) (head + 1 - tail - left))
 
 abbrev μ-loop : tie.MeasureT-loop
 μ-loop limits top tail head lowest₀ left₀ lowest left = left
@@ -44,7 +45,8 @@ loop-less : tie.Need-loop-less Inv-loop μ-loop
 loop-less c = search needs
 
 loop-again : tie.Need-loop-again Inv-loop μ-loop
-loop-again c = (omega arith, lowest-down _ _ _ _ _ (omega arith) (omega arith) (c .before .before .before .before .loop .inv .1) (c .before .wide .ensures .0) (c .lower .ensures))
+loop-again c = (omega arith, lowest-down _ _ _ _ _ (omega arith) (omega arith) (c .before .before .before .before .loop .inv .1)
+    (c .before .wide .ensures .0) (c .lower .ensures))
 
 returns : tie.Need-returns Inv-loop μ-loop
 returns c = lowest-all _ _ _ _ (omega arith) (c .before .loop .inv .1)

@@ -135,7 +135,7 @@ loop-again c =
     let timed = f .before .before .before .before .before .time-train in
     let i = o .before .before .loop .inv in (
       through-next _ (s .pre .0) (i .0) (more o) (line o) (timed .ensures .0 .0) (timed .ensures .0 .1) (f .before .before .with-hold .ensures)
-      (f .start-of .ensures) (b .block-of .ensures) (c .record-size .ensures .0) refl,
+          (f .start-of .ensures) (b .block-of .ensures) (c .record-size .ensures .0) refl,
       timed .ensures .1 .0 ∙ i .1,
       timed .ensures .1 .1 ∙ i .2,
     )

@@ -16,10 +16,12 @@ enum-known-answer-2 : tie.Need-enum-known-answer-2
 enum-known-answer-2 c = search needs
 
 returns : tie.Need-returns
-returns c = sym (ap (λ (a : HeadwayAnswer). headwayByNumber (asHeadwayAnswer a)) (c .before .answer .given .1)) ∙ ap headwayByNumber (c .before .before .before .headway .ensures)
+returns c = sym (ap (λ (a : HeadwayAnswer). headwayByNumber (asHeadwayAnswer a)) (c .before .answer .given .1)) ∙
+    ap headwayByNumber (c .before .before .before .headway .ensures)
 
 returns-2 : tie.Need-returns-2
-returns-2 c = sym (ap (λ (a : HeadwayAnswer). headwayByNumber (asHeadwayAnswer a)) (c .before .answer2 .given .1)) ∙ ap headwayByNumber (c .before .before .before .headway .ensures)
+returns-2 c = sym (ap (λ (a : HeadwayAnswer). headwayByNumber (asHeadwayAnswer a)) (c .before .answer2 .given .1)) ∙
+    ap headwayByNumber (c .before .before .before .headway .ensures)
 
 pub headway-by-number-spec : {M : Type 1} → statement M
 headway-by-number-spec =
