@@ -4,6 +4,13 @@ use plain::{HoldRecord, Refusal, Sheet};
 use std::slice;
 
 #[repr(C)]
+pub struct RecordAnswer {
+    number: u64,
+    start: u64,
+    length: u64,
+}
+
+#[repr(C)]
 pub struct HoldAnswer {
     number: u64,
     hold: HoldRecord,
@@ -46,27 +53,25 @@ fn split<T: Default>(answer: Result<T, Refusal>) -> (Refusal, T) {
 }
 
 #[no_mangle]
-pub unsafe extern "C" fn vr_check_file(file: *const u8, len: usize) -> u8 {
+pub unsafe extern "C" fn vr_check_file(file: *const u8, len: usize) -> u64 {
     split(plain::check_file(lent(file, len))).0
 }
 
 #[no_mangle]
-pub unsafe extern "C" fn vr_check_train(file: *const u8, len: usize, k: u64) -> u8 {
+pub unsafe extern "C" fn vr_check_train(file: *const u8, len: usize, k: u64) -> u64 {
     split(plain::check_train(lent(file, len), k)).0
 }
 
 #[no_mangle]
-pub unsafe extern "C" fn vr_train_record(file: *const u8, len: usize, k: u64, start: &mut u64, length: &mut u64) -> u8 {
+pub unsafe extern "C" fn vr_train_record(file: *const u8, len: usize, k: u64) -> RecordAnswer {
     let (number, part) = split(plain::train_record(lent(file, len), k));
-    *start = part.start as u64;
-    *length = part.len() as u64;
-    number
+    RecordAnswer { number, start: part.start as u64, length: part.len() as u64 }
 }
 
 #[no_mangle]
 pub unsafe extern "C" fn vr_run(
     file: *const u8, len: usize, k: u64, speeds: *mut u32, ns: usize, times: *mut u64, nt: usize,
-) -> u8 {
+) -> u64 {
     let (speeds, times) = (lent_to_write(speeds, ns), lent_to_write(times, nt));
     split(plain::run(lent(file, len), k, speeds, times)).0
 }
@@ -77,23 +82,23 @@ pub unsafe extern "C" fn vr_hold(
 ) -> HoldAnswer {
     let (speeds, times) = (lent_to_write(speeds, ns), lent_to_write(times, nt));
     let (number, hold) = split(plain::hold(lent(file, len), k, speeds, times));
-    HoldAnswer { number: number.into(), hold }
+    HoldAnswer { number, hold }
 }
 
 #[no_mangle]
 pub extern "C" fn vr_open(blocks: u64) -> Opened {
     let (number, sheet) = split(Sheet::open(blocks));
-    Opened { number: number.into(), sheet }
+    Opened { number, sheet }
 }
 
 #[no_mangle]
 pub extern "C" fn vr_add(sheet: &mut Sheet, hold: &HoldRecord) -> Added {
     let (number, (start, block)) = split(sheet.add(hold));
-    Added { number: number.into(), start, block }
+    Added { number, start, block }
 }
 
 #[no_mangle]
 pub extern "C" fn vr_headway(first: &HoldRecord, second: &HoldRecord) -> HeadwayAnswer {
     let (number, headway) = split(plain::headway(first, second));
-    HeadwayAnswer { number: number.into(), headway }
+    HeadwayAnswer { number, headway }
 }

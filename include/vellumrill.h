@@ -50,6 +50,13 @@ typedef struct vr_sheet {
     uint64_t free[32];
 } vr_sheet;
 
+/* Where a train's record stands in the file, and how many bytes it has. */
+typedef struct vr_record_answer {
+    uint64_t number;
+    uint64_t start;
+    uint64_t length;
+} vr_record_answer;
+
 typedef struct vr_hold_answer {
     uint64_t number;
     vr_hold_record hold;
@@ -73,22 +80,22 @@ typedef struct vr_headway_answer {
 
 /* Checks a file.
  * Returns 0, or the number of refusal by rules 1 to 9. Writes nothing. */
-uint8_t vr_check_file(const uint8_t *file, size_t len);
+uint64_t vr_check_file(const uint8_t *file, size_t len);
 
 /* Checks a file and a train number.
  * Returns 0, or the number of refusal by rules 1 to 10. Writes nothing. */
-uint8_t vr_check_train(const uint8_t *file, size_t len, uint64_t k);
+uint64_t vr_check_train(const uint8_t *file, size_t len, uint64_t k);
 
 /* Finds the record of train k, from its class to its last dwell (or last rate, if it has no stops).
- * Returns 0, or the number of refusal by rules 1 to 10. Writes the record's first byte, counted from the file's, to
- * `start` and its count of bytes to `length`. A refusal writes 0 to both. */
-uint8_t vr_train_record(const uint8_t *file, size_t len, uint64_t k, uint64_t *start, uint64_t *length);
+ * Returns the number 0, the place of the record's first byte, counted from 0, and its count of bytes; or the number of
+ * refusal by rules 1 to 10 with start 0 and length 0. Writes nothing. */
+vr_record_answer vr_train_record(const uint8_t *file, size_t len, uint64_t k);
 
 /* Computes the run of train k.
  * Returns 0, or the number of refusal by rules 1 to 11. Of a line with P points it writes the P squared speeds to
  * `speeds`, in squares of hundredths of a km/h, and the P arrivals to `times`; entries from P on are kept. No permitted
  * row of speeds reaches a point before these. 4,096 entries are enough for every file. A refusal keeps every entry. */
-uint8_t vr_run(const uint8_t *file, size_t len, uint64_t k, uint32_t *speeds, size_t ns, uint64_t *times, size_t nt);
+uint64_t vr_run(const uint8_t *file, size_t len, uint64_t k, uint32_t *speeds, size_t ns, uint64_t *times, size_t nt);
 
 /* Computes the run and the block holds of train k.
  * Returns the number 0 and the hold record, in which places beyond the block count are 0; or the number of refusal by

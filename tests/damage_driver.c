@@ -107,21 +107,18 @@ static void print_sheet(const vr_sheet *sheet)
 
 static void ask_checks(const struct question *asked)
 {
-    uint64_t *start = filled(sizeof *start);
-    uint64_t *length = filled(sizeof *length);
-    printf("check_file %u\n", vr_check_file(asked->file, asked->length));
-    printf("check_train %u\n", vr_check_train(asked->file, asked->length, asked->k));
-    printf("train_record %u", vr_train_record(asked->file, asked->length, asked->k, start, length));
-    printf(" %" PRIu64 " %" PRIu64 "\n", *start, *length);
-    free(start);
-    free(length);
+    printf("check_file %" PRIu64 "\n", vr_check_file(asked->file, asked->length));
+    printf("check_train %" PRIu64 "\n", vr_check_train(asked->file, asked->length, asked->k));
+    vr_record_answer record = vr_train_record(asked->file, asked->length, asked->k);
+    printf("train_record %" PRIu64 " %" PRIu64 " %" PRIu64 "\n", record.number, record.start, record.length);
 }
 
 static void ask_run(struct question *asked)
 {
     lend_buffers(asked);
-    printf("run %u", vr_run(asked->file, asked->length, asked->k,
-                            asked->speeds, asked->speeds_length, asked->times, asked->times_length));
+    uint64_t number = vr_run(asked->file, asked->length, asked->k,
+                             asked->speeds, asked->speeds_length, asked->times, asked->times_length);
+    printf("run %" PRIu64, number);
     take_back_buffers(asked);
 }
 

@@ -1,7 +1,8 @@
 """Accepted line files, and ways to damage them at random."""
 import struct
 
-from calculator import Refused, parse, sample_line, write_line
+from yardstick import VERSION, Refused, parse, sample_line, write_line
+
 from vectors import INTERESTING, one_of_each_line, random_line
 
 MOST_POINTS = 4096
@@ -18,10 +19,10 @@ def base_file(rng):
     """An accepted file of few points and trains."""
     made = rng.random()
     if made < 0.1:
-        return write_line(sample_line(), 0)
+        return write_line(sample_line())
     if made < 0.3:
-        return write_line(one_of_each_line(0), 0)
-    return write_line(random_line(rng, 0, 3, rng.choice([6, 12, 30]), rng.randint(1, 3)), 0)
+        return write_line(one_of_each_line(VERSION))
+    return write_line(random_line(rng, VERSION, 3, rng.choice([6, 12, 30]), rng.randint(1, 3)))
 
 
 def words_of(data):
@@ -77,7 +78,7 @@ def swap_words(rng, data, other):
 def parsed(data):
     """The line, or None if the file is too short or too long for its sizes."""
     try:
-        return parse(data, 0)
+        return parse(data)
     except Refused:
         return None
 
@@ -100,7 +101,7 @@ def change_entry(rng, data, other):
     entries = rng.choice(lists)
     at = rng.randrange(len(entries))
     entries[at] = rng.choice([entries[at] - 1, entries[at] + 1, entries[at - 1] + rng.choice([-1, 0, 1, 2])]) % 65536
-    return write_line(line, 0)
+    return write_line(line)
 
 
 def put_to_limit(rng, data, other):
@@ -117,7 +118,7 @@ def put_to_limit(rng, data, other):
             present[rng.randrange(len(present))] = value
     else:
         setattr(holder, name, value)
-    return write_line(line, 0)
+    return write_line(line)
 
 
 def fit_length(rng, data, other):
@@ -126,7 +127,7 @@ def fit_length(rng, data, other):
     if not line or not line.trains or not line.block_ends:
         return change_word(rng, data, other)
     rng.choice(line.trains).length = max(0, line.L * (line.P - 1 - line.block_ends[-1]) + rng.randrange(2)) % 65536
-    return write_line(line, 0)
+    return write_line(line)
 
 
 def grow(rng, data, other):
@@ -136,13 +137,13 @@ def grow(rng, data, other):
         return put_in(rng, data, other)
     if line.trains and rng.random() < 0.2:
         line.trains += [rng.choice(line.trains)] * (rng.choice([64, 65]) - len(line.trains))
-        return write_line(line, 0)
+        return write_line(line)
     first, second, gap = rng.choice(list(pairs_of_lists(line)))
     size = rng.choice([len(first) + 1, 8, 9, 32, 33, 64, 65])
     while first and len(first) < size:
         first.append((first[-1] + gap) % 65536)
         second.append((second[-1] + rng.randrange(2)) % 65536)
-    return write_line(line, 0)
+    return write_line(line)
 
 
 def cut_end(rng, data, other):

@@ -10,8 +10,6 @@ from ctypes import POINTER, Structure, c_size_t, c_uint8, c_uint32, c_uint64
 from pathlib import Path
 
 TOP_FOLDER = Path(__file__).resolve().parent.parent
-sys.path.insert(0, str(TOP_FOLDER / "tests" / "calculator"))
-
 ARCHIVE = TOP_FOLDER / "target" / "staticlib" / "libvellumrill.a"
 SHARED_OBJECT = TOP_FOLDER / "target" / "libvellumrill.so"
 INCLUDE = TOP_FOLDER / "include"
@@ -27,6 +25,10 @@ class HoldRecord(Structure):
 
 class Sheet(Structure):
     _fields_ = [("blocks", c_uint64), ("trains", c_uint64), ("free", c_uint64 * PLACES)]
+
+
+class RecordAnswer(Structure):
+    _fields_ = [("number", c_uint64), ("start", c_uint64), ("length", c_uint64)]
 
 
 class HoldAnswer(Structure):
@@ -48,10 +50,10 @@ class HeadwayAnswer(Structure):
 FILE = [POINTER(c_uint8), c_size_t]
 BUFFERS = [POINTER(c_uint32), c_size_t, POINTER(c_uint64), c_size_t]
 CALLS = {
-    "vr_check_file": (c_uint8, FILE),
-    "vr_check_train": (c_uint8, FILE + [c_uint64]),
-    "vr_train_record": (c_uint8, FILE + [c_uint64, POINTER(c_uint64), POINTER(c_uint64)]),
-    "vr_run": (c_uint8, FILE + [c_uint64] + BUFFERS),
+    "vr_check_file": (c_uint64, FILE),
+    "vr_check_train": (c_uint64, FILE + [c_uint64]),
+    "vr_train_record": (RecordAnswer, FILE + [c_uint64]),
+    "vr_run": (c_uint64, FILE + [c_uint64] + BUFFERS),
     "vr_hold": (HoldAnswer, FILE + [c_uint64] + BUFFERS),
     "vr_open": (Opened, [c_uint64]),
     "vr_add": (Added, [POINTER(Sheet), POINTER(HoldRecord)]),
@@ -112,10 +114,9 @@ class Library:
     def train_record(self, data, k):
         """The number, the start and the length."""
         file = lent_file(data)
-        start, length = c_uint64(PATTERN), c_uint64(PATTERN)
-        number = self.train_record_in_c(file, len(data), k, start, length)
+        answer = self.train_record_in_c(file, len(data), k)
         untouched("file", bytes(file) == data)
-        return number, start.value, length.value
+        return answer.number, answer.start, answer.length
 
     def run(self, data, k, speeds_length, times_length):
         """The number, and the entries written to both buffers."""

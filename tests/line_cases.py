@@ -13,14 +13,12 @@ import random
 import struct
 import sys
 from copy import deepcopy
-from pathlib import Path
 
-HERE = Path(__file__).resolve().parent
-sys.path.insert(0, str(HERE / "calculator"))
+sys.dont_write_bytecode = True
 
-from calculator import Line, Refused, Train, accepted_line, broken_rules, check_call, number_of, parse  # noqa: E402
-from calculator import record_call, sample_line, write_line  # noqa: E402
 from packed import PackedFiles  # noqa: E402
+from yardstick import Line, Refused, Train, accepted_line, broken_rules, check_call, number_of, parse  # noqa: E402
+from yardstick import record_call, sample_line, write_line  # noqa: E402
 
 MOST_BYTES = 65536
 MOST = 65535
@@ -35,15 +33,15 @@ class Cases(PackedFiles):
             return
         assert len(data) <= MOST_BYTES
         self.files.add(data)
-        number = number_of(accepted_line, data, 0)
+        number = number_of(accepted_line, data)
         if numbers is None:
             numbers = numbers_to_ask(data, number)
         self.count("files of number %d" % number)
         self.packed += struct.pack("<QQ", len(numbers), len(data)) + data + struct.pack("<%dQ" % len(numbers), *numbers)
         for k in numbers:
-            at, length = record_call(data, k, 0)
+            at, length = record_call(data, k)
             place = data.find(data[at:at + length])
-            answer = check_call(data, k, 0)
+            answer = check_call(data, k)
             self.lines.append("%d %d %d %d" % (number, answer, place, length))
             self.count("cases")
             self.count("cases of number %2d" % answer)
@@ -51,13 +49,13 @@ class Cases(PackedFiles):
                 self.count("parts that an equal part precedes")
 
     def line(self, line, numbers=None, **counts):
-        self.ask(write_line(line, 0, **counts), numbers)
+        self.ask(write_line(line, **counts), numbers)
 
 
 def numbers_to_ask(data, number):
     """Train numbers about T, and numbers that differ from a train's only above the low 8, 16 or 32 bits."""
     try:
-        count = len(parse(data, 0).trains)
+        count = len(parse(data).trains)
     except Refused:
         return [0, TOP]
     last = max(count - 1, 0)
@@ -115,7 +113,7 @@ def any_line(rng, most_points, most_trains):
 
 
 def kept(line):
-    assert not broken_rules(line, 0), broken_rules(line, 0)
+    assert not broken_rules(line), broken_rules(line)
     return line
 
 
@@ -228,7 +226,7 @@ def changed(line, *changes):
 
 def sample(cases, rng):
     """The sample, whole, cut at every byte and with bytes behind it; each of its numbers put to others."""
-    data = write_line(sample_line(), 0)
+    data = write_line(sample_line())
     cases.ask(data)
     for length in range(len(data)):
         cases.ask(data[:length], [0, 1, 2, TOP])
@@ -251,8 +249,8 @@ def single_rules(cases, rng):
             changes += changes_of_train(base, k)
         for rule, change in changes:
             line = changed(base, change)
-            broken = {number for number, _ in broken_rules(line, 0)}
-            assert min(broken, default=0) == rule and broken <= {rule, 9}, (rule, broken_rules(line, 0))     # 9 with an end beyond P - 1
+            broken = {number for number, _ in broken_rules(line)}
+            assert min(broken, default=0) == rule and broken <= {rule, 9}, (rule, broken_rules(line))     # 9 with an end beyond P - 1
             cases.count("files with one rule broken, at a limit" if len(broken) == 1 else "other files at a limit")
             cases.line(line)
     for P in (0, 1, 2, 3, 4):           # 9 cannot be kept with fewer points than 3
@@ -278,7 +276,7 @@ def several_rules(cases, rng):
                 cases.line(changed(base, rng.choice(by_rule[high]), rng.choice(by_rule[low])))
     for rule in rules:
         for _ in range(6):
-            data = write_line(changed(base, rng.choice(by_rule[rule])), 0)
+            data = write_line(changed(base, rng.choice(by_rule[rule])))
             cases.ask(data[:rng.choice([len(data) - 1, rng.randrange(len(data))])])
             cases.ask(data + bytes(rng.choice([1, 2, 8])))
     for _ in range(150):
@@ -317,7 +315,7 @@ def valid_files(cases, rng):
 def largest_files(cases, rng):
     """The most of everything: 11,150 bytes."""
     line = kept(a_line(rng, 4096, 1, 64, 32, 1000, [(8, 32)] * 64))
-    data = write_line(line, 0)
+    data = write_line(line)
     cases.ask(data, sorted(set(range(64)) | {64, 65, 255, 256, 2 ** 16, 2 ** 16 + 63, 2 ** 32, 2 ** 32 + 63, TOP}))
     for length in (265, 266, 267, 395, 396, 397, 398, 405, 406, len(data) - 168, len(data) - 160, len(data) - 1):
         cases.ask(data[:length])
@@ -335,7 +333,7 @@ def largest_files(cases, rng):
 def cut_files(cases, rng):
     """Files cut at every byte."""
     for _ in range(3):
-        data = write_line(any_line(rng, 12, 2), 0)
+        data = write_line(any_line(rng, 12, 2))
         for length in range(max(len(data) - 150, 0), len(data)):
             cases.ask(data[:length], [0, TOP] if length % 2 else [0])
 
@@ -360,8 +358,8 @@ def great_sizes(cases, rng):
         trains = [Train(0, 1, list(range(1, A + 1)), [1] * A, [2 * i for i in range(S)], [0] * S) for _ in range(T)]
         line = Line(4096, 100, 0, 0, list(range(K)), [1] * K, list(range(B)), list(range(1, B + 1)), trains)
         cases.line(line)
-        cases.ask(write_line(line, 0)[:-1])
-        cases.ask(write_line(line, 0) + b"\1")
+        cases.ask(write_line(line)[:-1])
+        cases.ask(write_line(line) + b"\1")
 
 
 def any_bytes(cases, rng):
@@ -372,7 +370,7 @@ def any_bytes(cases, rng):
         numbers[2:4] = [rng.randrange(4), rng.randrange(4)]
         cases.ask(struct.pack("<%dH" % len(numbers), *numbers) + bytes(rng.randrange(2)))
     for _ in range(200):                # one byte of a valid file altered
-        data = bytearray(write_line(any_line(rng, 20, 3), 0))
+        data = bytearray(write_line(any_line(rng, 20, 3)))
         data[rng.randrange(len(data))] = rng.randrange(256)
         cases.ask(bytes(data))
 

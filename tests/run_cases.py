@@ -15,16 +15,13 @@ all ends.
 import random
 import struct
 import sys
-from pathlib import Path
 
-HERE = Path(__file__).resolve().parent
-sys.path.insert(0, str(HERE / "calculator"))
 sys.dont_write_bytecode = True
 
-from calculator import Hold, Line, Refused, Train, accepted_line, hold_call, number_of, padded, parse  # noqa: E402
-from calculator import sample_line, write_line  # noqa: E402
 from line_cases import a_line, changed, changes_of_line, changes_of_train, kept, pick, rising, roomy  # noqa: E402
 from packed import PackedFiles  # noqa: E402
+from yardstick import Hold, Line, Refused, Train, accepted_line, hold_call, number_of, padded, parse  # noqa: E402
+from yardstick import sample_line, write_line  # noqa: E402
 
 NO_SPEED = 2 ** 32 - 1
 NO_TIME = 2 ** 64 - 1
@@ -53,7 +50,7 @@ def answers(data, k, speeds_length, times_length):
     speeds, times = [NO_SPEED] * speeds_length, [NO_TIME] * times_length
     number, hold = 0, Hold(0, padded([]), padded([]))
     try:
-        hold = hold_call(data, k, speeds, times, 0)
+        hold = hold_call(data, k, speeds, times)
     except Refused as refusal:
         number = refusal.number
     n = written(times, NO_TIME)
@@ -74,7 +71,7 @@ class Cases(PackedFiles):
         if data in self.files:
             return
         self.files.add(data)
-        number = number_of(accepted_line, data, 0)
+        number = number_of(accepted_line, data)
         self.count("files accepted" if number == 0 else "files of number %d" % number)
         if questions is None:
             questions = self.questions(data, number)
@@ -86,12 +83,12 @@ class Cases(PackedFiles):
             self.count("questions accepted" if number == 0 else "questions of number %2d" % number)
 
     def line(self, line, questions=None):
-        self.ask(write_line(line, 0), questions)
+        self.ask(write_line(line), questions)
 
     def questions(self, data, number):
         """Each train and one more, with buffers of P entries or somewhat more; one or two trains of a refused file."""
         try:
-            line = parse(data, 0)
+            line = parse(data)
         except Refused:
             return [(0, 9, 9), (TOP, 0, 0)][:self.rng.randint(1, 2)]
         P, T = line.P, len(line.trains)
@@ -125,7 +122,7 @@ def with_stops(rng, P, L, lists):
 # ---- lists of files
 
 def sample(cases, rng):
-    data = write_line(sample_line(), 0)
+    data = write_line(sample_line())
     lengths = [(7, 7), (8, 15), (6, 7), (7, 6), (6, 6), (0, 7), (7, 0), (0, 0), (LONGEST, LONGEST), (7, LONGEST), (LONGEST, 6)]
     cases.ask(data, [(k, a, b) for k in (0, 1, 2) for a, b in lengths])
     for length in list(range(0, len(data), 3)) + [len(data) - 1]:

@@ -15,14 +15,11 @@ RECORD is COUNT PLACES PLACES; PLACES is a value for all 32 places, how many of 
 import random
 import struct
 import sys
-from pathlib import Path
 
-HERE = Path(__file__).resolve().parent
-sys.path.insert(0, str(HERE / "calculator"))
 sys.dont_write_bytecode = True
 
-from calculator import Hold, Refused, Sheet, add_call, headway_call, open_call  # noqa: E402
 from packed import write_cases  # noqa: E402
+from yardstick import Hold, Refused, Sheet, add_call, headway_call, open_call  # noqa: E402
 
 OPEN, ADD, HEADWAY, FORGE, SHOW = 1, 2, 3, 4, 5
 PLACES = 32
@@ -71,7 +68,7 @@ class Calls:
         self.numbers.append(ADD)
         self.record(hold)
         try:
-            answer = "accepted %d %d" % add_call(self.sheet, hold, 0)
+            answer = "accepted %d %d" % add_call(self.sheet, hold)
             self.count("accepted")
         except Refused as refusal:
             answer = "refused %d" % refusal.number
@@ -86,7 +83,7 @@ class Calls:
         self.record(first)
         self.record(second)
         try:
-            self.lines.append("headway %d" % headway_call(first, second, 0))
+            self.lines.append("headway %d" % headway_call(first, second))
             self.count("headway")
         except Refused as refusal:
             self.lines.append("no headway %d" % refusal.number)

@@ -4,80 +4,80 @@
 Writes crates/study_cases/stdin and crates/study_cases/stdout. The answers are those of calculator/calculator.py, which was
 written apart from the code under test. The seed is fixed: every run writes the same bytes.
 
-The input is, for each case: which call is asked (1 for a file, 2 for the sheet program's input, which has a bound of 16,384
-bytes), the lengths of the buffers lent for speeds, times and text, the file's length, the file's bytes. Each number has 8
-bytes, low byte first.
+The input is numbers of 8 bytes, low byte first, and the bytes of files. First comes the count of cases. A case is:
+    LENGTH      of the file, at most 20,000
+    the file    so many bytes
+    KIND        0 for study(file, text), 1 for program_text(file)
+    LENT        the length of the bytes lent for the text, at most 4,096; 0 for KIND 1
+Lent bytes are all 255 before the call.
 
-The output has for each case a line with the number, how many bytes of text were written and a checksum of each whole buffer,
-and then the text.
+The output has a line for each case:
+    study NUMBER BYTES CHECKSUM     the answer, and a checksum of all lent bytes as the call leaves them
+    program BYTES CHECKSUM          the count of bytes of the text, and a checksum of these bytes alone
+NUMBER and BYTES are decimal; BYTES is 0 where a study is refused. CHECKSUM has 16 hexadecimal digits: it begins at 0, and for
+each byte in turn it is rotated left by 7 of its 64 bits, and the byte is added, modulo 2^64.
 """
 import random
 import struct
 import sys
-from pathlib import Path
 
-HERE = Path(__file__).resolve().parent
-sys.path.insert(0, str(HERE / "calculator"))
 sys.dont_write_bytecode = True
 
-from calculator import HEADER_LINE, PROGRAM_BOUND, Line, Refused, Train, accepted_line, program, run_of  # noqa: E402
-from calculator import sample_line, sheet_of, write_line  # noqa: E402
 from line_cases import a_line, changed, kept  # noqa: E402
 from packed import PackedFiles  # noqa: E402
-from run_cases import LONGEST, NO_SPEED, NO_TIME, broken_lines, checksum, quick_train, some_line  # noqa: E402
+from run_cases import broken_lines, checksum, quick_train, some_line  # noqa: E402
+from yardstick import HEADER_LINE, Line, Train, accepted_line, number_of, program, sample_line, write_line  # noqa: E402
 
 NO_BYTE = 255
+MOST_BYTES = 20000
 MOST_TEXT = 4096
-FILE, INPUT = 1, 2
+STUDY, PROGRAM = 0, 1
 
 
-def text_of(line):
-    rows, _ = sheet_of(line, range(len(line.trains)), 0)
-    lines = [b"%d %d %d %d\n" % (k + 1, *row) for k, row in enumerate(rows)]
-    return HEADER_LINE + b"".join(lines)
-
-
-def study(call, data, speeds, times, room):
-    """The number and the text, and the run of the last train in the two lists lent for it."""
-    try:
-        if call == INPUT and len(data) > PROGRAM_BOUND:
-            raise Refused(2)
-        line = accepted_line(data, 0)
-    except Refused as refusal:
-        text = b"refused %d\n" % refusal.number
-        return refusal.number, text if len(text) <= room else b""
-    text = text_of(line)
-    if min(len(speeds), len(times)) < line.P or room < len(text):
-        return 11, b""
-    speeds[:line.P], times[:line.P] = run_of(line, line.trains[-1], 0)
-    return 0, text
+def lengths_about(text):
+    """Lent lengths about that of a text."""
+    return [len(text), len(text) - 1, len(text) + 1, 0, len(HEADER_LINE), MOST_TEXT]
 
 
 class Cases(PackedFiles):
     """The packed cases, and the lines that answer."""
 
-    def ask(self, data, call=INPUT, lengths=(LONGEST, LONGEST, MOST_TEXT)):
+    def ask(self, data, every_length=False):
+        """What the program prints, and the study with the text's own length and another one in turn, or with every one."""
+        number, text = number_of(accepted_line, data), program(data)
         self.files.add(data)
-        speeds, times = [NO_SPEED] * lengths[0], [NO_TIME] * lengths[1]
-        number, text = study(call, data, speeds, times, lengths[2])
-        if call == INPUT and lengths == (LONGEST, LONGEST, MOST_TEXT):
-            assert text == program(data, 0)
-        self.packed += struct.pack("<QQQQQ", call, *lengths, len(data)) + data
-        whole = text + bytes([NO_BYTE]) * (lengths[2] - len(text))
-        self.lines.append("study %d %d %016x %016x %016x" % (number, len(text), checksum(speeds), checksum(times), checksum(whole)))
-        self.lines += text.decode().splitlines()
-        self.count("cases accepted" if number == 0 else "cases of number %2d" % number)
+        self.case(data, PROGRAM, 0, "program %d %016x" % (len(text), checksum(text)))
+        exact, *others = lengths_about(text)
+        for lent in [exact] + (others if every_length else [others[len(self.files) % len(others)]]):
+            self.study(data, lent, number, text)
 
-    def line(self, line, call=INPUT, lengths=(LONGEST, LONGEST, MOST_TEXT)):
-        self.ask(write_line(line, 0), call, lengths)
+    def study(self, data, lent, number, text):
+        if number == 0 and lent < len(text):
+            number = 11
+        written = text if number == 0 else b""
+        left = written + bytes([NO_BYTE]) * (lent - len(written))
+        self.case(data, STUDY, lent, "study %d %d %016x" % (number, len(written), checksum(left)))
+        self.count("studies accepted" if number == 0 else "studies of number %2d" % number)
+
+    def case(self, data, kind, lent, answer):
+        assert len(data) <= MOST_BYTES
+        self.packed += struct.pack("<Q", len(data)) + data + struct.pack("<QQ", kind, lent)
+        self.lines.append(answer)
+        self.count("cases")
+
+    def line(self, line, every_length=False):
+        self.ask(write_line(line), every_length)
+
+    def write(self, name):
+        self.packed[:0] = struct.pack("<Q", len(self.lines))
+        super().write(name)
 
 
 # ---- lists of cases
 
 def sample(cases, rng):
-    data = write_line(sample_line(), 0)
-    cases.ask(data)
-    cases.ask(data, FILE)
+    data = write_line(sample_line())
+    cases.ask(data, every_length=True)
     for length in range(len(data)):
         cases.ask(data[:length])
     for extra in (b"\0", b"\xff\xff", bytes(8), data):
@@ -100,14 +100,14 @@ def many_trains(cases, rng):
         for trains in (10, 63, 64):
             cases.line(kept(some_line(rng, P, trains)))
             train = quick_train(rng, 1, [0, P - 1])
-            cases.line(kept(Line(P, 100, 10, 20, [0], [200], [0], [P - 2], [train] * trains)))
+            cases.line(kept(Line(P, 100, 10, 20, [0], [200], [0], [P - 2], [train] * trains)), every_length=True)
 
 
 def late_starts(cases, rng):
     """The latest starts: 64 trains that stop for an hour wherever they can, on a line of one block."""
     stops = list(range(2, 66, 2))
     train = Train(2, 1000, [1], [1], stops, [3600] * len(stops))
-    cases.line(kept(Line(4096, 100, 65535, 65535, [0], [1], [0], [4085], [train] * 64)))
+    cases.line(kept(Line(4096, 100, 65535, 65535, [0], [1], [0], [4085], [train] * 64)), every_length=True)
 
 
 def broken_rules(cases, rng):
@@ -116,39 +116,27 @@ def broken_rules(cases, rng):
 
 
 def bound(cases, rng):
-    """Inputs of 16,384 bytes and one more: whole files with bytes behind them, and cut ones, by each call."""
-    whole, cut = write_line(sample_line(), 0), struct.pack("<6H", 7, 100, 64, 65535, 0, 0)
-    large = write_line(kept(a_line(rng, 200, 100, 64, 32, 10, [(8, 32)] * 64)), 0)
+    """Inputs of 16,384 bytes, somewhat less and more: whole files with bytes behind them, and cut ones."""
+    whole, cut = write_line(sample_line()), struct.pack("<6H", 7, 100, 64, 65535, 0, 0)
+    large = write_line(kept(a_line(rng, 200, 100, 64, 32, 10, [(8, 32)] * 64)))
     for data in (whole, cut, large, b"\xff\xff" * 6):
-        for length in (16383, 16384, 16385, 16386, 20000):
-            padded = data + bytes(length - len(data))
-            cases.ask(padded)
-            cases.ask(padded, FILE)
+        for length in (16383, 16384, 16385, 16386, MOST_BYTES):
+            cases.ask(data + bytes(length - len(data)))
     cases.ask(large)
-    cases.ask(large, FILE)
 
 
-def short_buffers(cases, rng):
-    """Run buffers of P entries and one less; bytes for the text, one less, none."""
+def lent_lengths(cases, rng):
+    """Every length for lines of few and many points, and for refused files."""
     for P in (3, 4, 10, 255, 1000, 4096):
-        line = kept(some_line(rng, P, 3))
-        room = len(text_of(line))
-        lengths = [(P, P, room), (P - 1, P, room), (P, P - 1, room), (P, P, room - 1), (P, P, 0), (0, 0, 0), (P, P, MOST_TEXT),
-                   (LONGEST, LONGEST, room - 1), (LONGEST, LONGEST, 22), (P - 1, P, 0), (P, P, room + 1)]
-        for each in lengths:
-            cases.line(line, FILE, each)
-            cases.line(line, INPUT, each)
-    for data in (b"", write_line(changed(sample_line(), lambda line: setattr(line, "L", 0)), 0), bytes(16385)):
-        for room in (0, 9, 10, 11):
-            for call in (FILE, INPUT):
-                cases.ask(data, call, (7, 7, room))
-                cases.ask(data, call, (0, 0, room))
+        cases.line(kept(some_line(rng, P, 3)), every_length=True)
+    for data in (b"", write_line(changed(sample_line(), lambda line: setattr(line, "L", 0))), bytes(16385)):
+        cases.ask(data, every_length=True)
 
 
 def main():
     rng = random.Random(20241117)
     cases = Cases()
-    for part in (sample, sizes, many_trains, late_starts, broken_rules, bound, short_buffers):
+    for part in (sample, sizes, many_trains, late_starts, broken_rules, bound, lent_lengths):
         part(cases, rng)
     cases.write("study_cases")
 

@@ -10,13 +10,12 @@ import unittest
 from pathlib import Path
 
 TOP_FOLDER = Path(__file__).resolve().parent.parent
-sys.path.insert(0, str(TOP_FOLDER / "tests" / "calculator"))
 sys.dont_write_bytecode = True
 
-from calculator import PROGRAM_BOUND, program, sample_line, write_line  # noqa: E402
+from yardstick import PROGRAM_BOUND, program, sample_line, write_line  # noqa: E402
 
 PROGRAM = TOP_FOLDER / "target" / "bin" / "sheet_program"
-SAMPLE = write_line(sample_line(), 0)
+SAMPLE = write_line(sample_line())
 
 
 def printed(*pieces):
@@ -36,7 +35,7 @@ class SheetProgram(unittest.TestCase):
         self.assertEqual(printed(SAMPLE), b"train start run block\n1 0 69282976 0\n2 57282976 69282976 2\n")
 
     def test_pieces(self):
-        self.assertEqual(printed(*(SAMPLE[i:i + 1] for i in range(len(SAMPLE)))), program(SAMPLE, 0))
+        self.assertEqual(printed(*(SAMPLE[i:i + 1] for i in range(len(SAMPLE)))), program(SAMPLE))
 
     def test_no_input(self):
         self.assertEqual(printed(), b"refused 1\n")
@@ -44,8 +43,8 @@ class SheetProgram(unittest.TestCase):
     def test_bound(self):
         for byte in (b"\xff", b"\x01"):
             whole = byte * PROGRAM_BOUND
-            self.assertNotEqual(program(whole, 0), b"refused 2\n")
-            self.assertEqual(printed(whole), program(whole, 0))
+            self.assertNotEqual(program(whole), b"refused 2\n")
+            self.assertEqual(printed(whole), program(whole))
             self.assertEqual(printed(whole, byte), b"refused 2\n")
             self.assertEqual(printed(whole, whole * 4), b"refused 2\n")
 

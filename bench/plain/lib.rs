@@ -11,4 +11,4 @@ pub use run::run;
 pub use sheet::{headway, HoldRecord, Sheet};
 
 /// The number of a refusal, by document 01.
-pub type Refusal = u8;
+pub type Refusal = u64;

@@ -64,7 +64,7 @@ struct Reader<'a> {
 impl<'a> Reader<'a> {
     fn words(&mut self, count: usize) -> Result<Words<'a>, Refusal> {
         let end = self.at + 2 * count;
-        let bytes = self.file.get(self.at..end).ok_or(1)?;
+        let bytes = self.file.get(self.at..end).ok_or(1u64)?;
         self.at = end;
         Ok(Words(bytes))
     }

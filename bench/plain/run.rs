@@ -142,8 +142,8 @@ fn write_arrivals(line: &Line, train: &Train, speeds: &[u32], times: &mut [u64])
 
 /// Writes the run into the first entries of both buffers; rule 11 if one is too short.
 pub fn write_run(line: &Line, train: &Train, speeds: &mut [u32], times: &mut [u64]) -> Result<(), Refusal> {
-    let speeds = speeds.get_mut(..line.points).ok_or(11)?;
-    let times = times.get_mut(..line.points).ok_or(11)?;
+    let speeds = speeds.get_mut(..line.points).ok_or(11u64)?;
+    let times = times.get_mut(..line.points).ok_or(11u64)?;
     sweep_forward(line, train, speeds);
     sweep_backward(line.braking_loss(train), speeds);
     write_arrivals(line, train, speeds, times);

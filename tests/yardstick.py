@@ -1,0 +1,27 @@
+"""The independent calculator as the tests ask it: its calls at one version. The tests take all of it from here.
+
+This puts the folder calculator on the path, so its other modules can be imported after this one.
+"""
+import sys
+from functools import partial
+from pathlib import Path
+
+FOLDER = Path(__file__).resolve().parent / "calculator"
+sys.path.insert(0, str(FOLDER))
+
+import calculator  # noqa: E402
+from calculator import HEADER_LINE, PROGRAM_BOUND, Hold, Line, Refused, Sheet, Train, number_of  # noqa: E402, F401
+from calculator import open_call, padded, sample_line  # noqa: E402, F401
+
+VERSION = 0                 # how many requests of document 02 are landed, from the first on
+
+accepted_line = partial(calculator.accepted_line, version=VERSION)
+add_call = partial(calculator.add_call, version=VERSION)
+broken_rules = partial(calculator.broken_rules, version=VERSION)
+check_call = partial(calculator.check_call, version=VERSION)
+headway_call = partial(calculator.headway_call, version=VERSION)
+hold_call = partial(calculator.hold_call, version=VERSION)
+parse = partial(calculator.parse, version=VERSION)
+program = partial(calculator.program, version=VERSION)
+record_call = partial(calculator.record_call, version=VERSION)
+write_line = partial(calculator.write_line, version=VERSION)
