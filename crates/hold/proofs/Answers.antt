@@ -65,7 +65,7 @@ module _ (f : ℕ → ℕ) (n : ℕ) (s : List ℕ) {s′ : List ℕ} (e : s′ 
 module _ (l : Line) (t : Train) (same : Parallel l t) (speeds times : List ℕ) where
   pub run-done :
       {r : ℕ} {speeds′ times′ : List ℕ} → r ≡ runRefusalOn l t (length speeds) (length times) → r ≡ 0 → speeds′ ≡ speedsOn l t speeds times → times′ ≡
-          timesOn l t speeds times →
+      timesOn l t speeds times →
       Admitted l t × ((l .points ≤ length speeds′) × (l .points ≤ length times′)) × ((k : ℕ) → k < l .points → entry speeds′ k ≡ entry (runRow l t) k) ×
       ((k : ℕ) → k < l .points → entry times′ k ≡ entry (runTimes l t) k)
   unfolding speedsOn timesOn runRow arrivals
@@ -74,10 +74,16 @@ module _ (l : Line) (t : Train) (same : Parallel l t) (speeds times : List ℕ) 
       let ok = accepted-on l t (length speeds) (length times) n in
       let s : speeds′ ≡ written speeds 0 (row (runAt l t) (l .points)) = rw (eq-eqb (runRefusalOn l t (length speeds) (length times)) 0 n) at p in
       let m : times′ ≡ written times 0 (row (arrival l t (row (runAt l t) (l .points))) (l .points)) =
-          rw (eq-eqb (runRefusalOn l t (length speeds) (length times)) 0 n) at q in
-      (on-admitted l t (ok .0) same, (rw (written-long speeds (row (runAt l t) (l .points)) s (rw length-row (ok .1))) (ok .1), rw
-          (written-long times (row (arrival l t (row (runAt l t) (l .points))) (l .points)) m (rw length-row (ok .2))) (ok .2)),
-          written-entries _ _ speeds s (ok .1), written-entries _ _ times m (ok .2))
+      rw (eq-eqb (runRefusalOn l t (length speeds) (length times)) 0 n) at q in (
+        on-admitted l t (ok .0) same,
+        (
+          rw (written-long speeds (row (runAt l t) (l .points)) s (rw length-row (ok .1))) (ok .1),
+          rw
+              (written-long times (row (arrival l t (row (runAt l t) (l .points))) (l .points)) m (rw length-row (ok .2))) (ok .2),
+        ),
+        written-entries _ _ speeds s (ok .1),
+        written-entries _ _ times m (ok .2),
+      )
 
 -- ---- of a file
 

@@ -67,7 +67,7 @@ module _ (l : Line) (t : Train) (a : Admitted l t) where
   starts-rise : {j : ℕ} → j < length (l .blockStarts) → (k : ℕ) → k < j → entry (l .blockStarts) k ≤ entry (l .blockStarts) j
   starts-rise {j} h k g =
       rises-far (entry (l .blockStarts)) (length (l .blockStarts)) (λ k h. omega (arith, a .rule6 .below k (omega arith), a .rule6 .after k h)) k j
-          (omega arith) h
+      (omega arith) h
 
   module _ {h : Hold} {point next j : ℕ} (r : Holds l t h point next j) (m : j < length (l .blockStarts)) where
     -- the block starts and ends on the line
@@ -85,12 +85,18 @@ module _ (l : Line) (t : Train) (a : Admitted l t) where
 
       pub approach-asks : l .points ≤ length s →
           ((loss ≤ 15552000) × (b ≤ 4096) × (b < length s) × (point ≤ b)) × (0 < point → entry s point ≤ loss * (b - point)) ×
-              ((k : ℕ) → k < b → entry s k ≤ entry s (suc k) + loss)
+          ((k : ℕ) → k < b → entry s k ≤ entry s (suc k) + loss)
       approach-asks long =
-          let n : point ≤ b = rw e (r .before (entry (l .blockStarts) j) (starts-rise m)) in
-          ((omega (arith, loss-most l t a), omega (arith, on-line b (le-refl b), a .rule3Line .points-most), omega (arith, on-line b (le-refl b)), n),
-              slow-here n, λ k h. omega (arith, same k (omega (arith, on-line k (omega arith))), same (suc k) (on-line k (omega arith)),
-              run-is l t a .permitted .braked k (on-line k (omega arith))))
+          let n : point ≤ b = rw e (r .before (entry (l .blockStarts) j) (starts-rise m)) in (
+            (omega (arith, loss-most l t a), omega (arith, on-line b (le-refl b), a .rule3Line .points-most), omega (arith, on-line b (le-refl b)), n),
+            slow-here n,
+            λ k h. omega (
+              arith,
+              same k (omega (arith, on-line k (omega arith))),
+              same (suc k) (on-line k (omega arith)),
+              run-is l t a .permitted .braked k (on-line k (omega arith)),
+            ),
+          )
 
       module _ {p : ℕ} (q : p ≡ approachPoint s loss b) where
         pub point-is : p ≡ approachPoint (runRow l t) (brakingLoss l t) (entry (l .blockStarts) j)

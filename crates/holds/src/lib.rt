@@ -1,8 +1,8 @@
-// The hold record of a train: what the hold call gives, and what the sheet is added to with.
+// The hold record of a train: what the hold call gives, and what is added to a sheet.
 #[repr(C)]
 pub struct HoldRecord {
     pub blocks: u64,
-    // In microseconds, by block; the places beyond the block count are not read.
+    // In microseconds, a place for each block; those beyond the block count are not read.
     pub begins: [u64; 32],
     pub ends: [u64; 32],
 }

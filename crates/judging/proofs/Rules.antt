@@ -25,11 +25,11 @@ train-numbers t = simp length-row
 pub limit-point-numbers : (l : Line) → 1 ≤ l .«limit_count» →
     limitPointsRule (asLine l) ≡
     (eqb (entry (l .«limit_points») 0) 0 and risesBy 1 (l .«limit_count») (entry (l .«limit_points»)) and allWithin 0 (l .points - 2) (l .«limit_count»)
-        (entry (l .«limit_points»)))
+    (entry (l .«limit_points»)))
 unfolding limitPointsRule
 limit-point-numbers l h =
     let first : entry (row (entry (l .«limit_points»)) (l .«limit_count»)) 0 ≡ entry (l .«limit_points») 0 =
-        entry-row (entry (l .«limit_points»)) (l .«limit_count») 0 h in
+    entry-row (entry (l .«limit_points»)) (l .«limit_count») 0 h in
     rw (rises-row, within-row, first)
 
 pub block-numbers : (l : Line) → 1 ≤ l .«block_count» →
@@ -41,7 +41,7 @@ pub block-numbers : (l : Line) → 1 ≤ l .«block_count» →
 unfolding blocksRule
 block-numbers l h =
     let first : entry (row (entry (l .«block_starts»)) (l .«block_count»)) 0 ≡ entry (l .«block_starts») 0 =
-        entry-row (entry (l .«block_starts»)) (l .«block_count») 0 h in
+    entry-row (entry (l .«block_starts»)) (l .«block_count») 0 h in
     rw (below-row, below-next-row, within-row, first)
 
 pub last-block-numbers : (l : Line) (t : Train) → 1 ≤ l .«block_count» →
@@ -49,7 +49,7 @@ pub last-block-numbers : (l : Line) (t : Train) → 1 ≤ l .«block_count» →
 unfolding lastBlockRule
 last-block-numbers l t h =
     let last : entry (row (entry (l .«block_ends»)) (l .«block_count»)) (l .«block_count» - 1) ≡ entry (l .«block_ends») (l .«block_count» - 1) =
-        entry-row (entry (l .«block_ends»)) (l .«block_count») (l .«block_count» - 1) (omega arith) in
+    entry-row (entry (l .«block_ends»)) (l .«block_count») (l .«block_count» - 1) (omega arith) in
     rw (length-row, last)
 
 -- rule 3, from the numbers that the code holds
@@ -65,13 +65,13 @@ train-sizes-of t e f g = rw train-numbers (g ∙ rw (e, f))
 
 pub band-numbers : (t : Train) →
     bandsRule (asTrain t) ≡ (risesBy 1 (t .«band_count») (entry (t .tops)) and allWithin 1 300 (t .«band_count») (entry (t .tops)) and allWithin 1 200
-        (t .«band_count») (entry (t .rates)))
+    (t .«band_count») (entry (t .rates)))
 unfolding bandsRule
 band-numbers t = simp (rises-row, within-row)
 
 pub stop-numbers : (l : Line) (t : Train) →
     stopsRule (asLine l) (asTrain t) ≡
     (risesBy 2 (t .«stop_count») (entry (t .stops)) and allWithin 0 (l .points - 1) (t .«stop_count») (entry (t .stops)) and allWithin 0 3600
-        (t .«stop_count») (entry (t .dwells)))
+    (t .«stop_count») (entry (t .dwells)))
 unfolding stopsRule
 stop-numbers l t = simp (rises-row, within-row)

@@ -70,7 +70,7 @@ number-here file k at e f g h =
 
 pub line-here :
     (file : List ℕ) {number : ℕ} {d : DecodedFile} → d ≡ decodedFile file → number ≡
-        refusal (rule 3 (lineSizes (asLine (d .line)) (d .trains)) ∷ lineRules (asLine (d .line))) →
+    refusal (rule 3 (lineSizes (asLine (d .line)) (d .trains)) ∷ lineRules (asLine (d .line))) →
     number ≡ refusal (rule 3 (lineSizes (asLine (decodedLine file)) (trainCount file)) ∷ lineRules (asLine (decodedLine file)))
 line-here file e h = h ∙ rw e
 

@@ -89,7 +89,7 @@ written-is buffer at values h =
       behind = λ i l.
           let e : i ≡ at + (length values + (i - (at + length values))) = omega arith in
           rw e (shifted (length values + (i - (at + length values))) ∙ getD-append-add values rest (i - (at + length values)) 0 ∙
-              getD-drop (at + length values) buffer (i - (at + length values)) 0 ∙ ap (λ (j : ℕ). getD buffer j 0) (omega arith));
+          getD-drop (at + length values) buffer (i - (at + length values)) 0 ∙ ap (λ (j : ℕ). getD buffer j 0) (omega arith));
       places = simp (length-append, length-take, length-drop) (omega arith);
     }
   where

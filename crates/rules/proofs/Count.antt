@@ -214,9 +214,16 @@ last-passes (suc n) test i l e = go (test n) refl (λ h. last-passes n test i h 
     go true q r = (n, record { found = ap (λ (b : Bool). orElse (ifPasses b n) (lastBelow n test)) q; at-least = omega arith; there = omega arith; passes = q })
     go false q r =
         let h : i < n = ⊎-elim (λ (z : i ≡ n). absurd (false≢true (sym q ∙ ap test (sym z) ∙ e))) (λ lt. lt) (eq-or-lt-of-le (le-of-suc-le-suc l)) in
-        let (j, f) = r h in
-        (j, record { found = ap (λ (b : Bool). orElse (ifPasses b n) (lastBelow n test)) q ∙ f .found; at-least = f .at-least; there =
-            omega (arith, f .there); passes = f .passes })
+        let (j, f) = r h in (
+          j,
+          record {
+            found = ap (λ (b : Bool). orElse (ifPasses b n) (lastBelow n test)) q ∙ f .found;
+            at-least = f .at-least;
+            there =
+                omega (arith, f .there);
+            passes = f .passes;
+          },
+        )
 
 pub last-none : (n : ℕ) (test : ℕ → Bool) → NonePasses n test → lastBelow n test ≡ none
 unfolding lastBelow

@@ -172,7 +172,7 @@ trains file zero k h = rw zero-add (sym (there file (recordAt file k) (readTo (r
 trains file (suc n) k h =
     rw (sym (shift n k))
     (chain file _ (recordAt file (suc k)) (recordAt file (n + suc k)) _ (omega arith) (records-grow file (suc k) (n + suc k) (omega arith))
-        (trains file n (suc k)))
+    (trains file n (suc k)))
   where
     shift : (n k : ℕ) → n + suc k ≡ suc n + k
     shift n k = omega arith

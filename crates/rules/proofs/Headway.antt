@@ -57,5 +57,5 @@ module _ (first second : Hold) (c : countRule (first .blocks) ≡ true) where
     unfolding headway fresh sheetAfter
     headway-of g =
         let two = added-kept (sheetAfter (fresh (first .blocks)) first 0) second
-            (all-kept (sheetAfter (fresh (first .blocks)) first 0) second .1 (after .keeps, refl, g)) in
+        (all-kept (sheetAfter (fresh (first .blocks)) first 0) second .1 (after .keeps, refl, g)) in
         rw (opened-fresh (first .blocks) c, one, at-zero, two)

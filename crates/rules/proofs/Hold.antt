@@ -107,8 +107,11 @@ unfolding holdWith holdBegin holdEnd
 hold-is l t speeds m =
     record {
       count = refl;
-      begins = λ j h. (approachPoint speeds (brakingLoss l t) (entry (l .blockStarts) j), approach-is speeds (brakingLoss l t) (entry (l .blockStarts) j),
-          padded-within _ h (omega arith));
+      begins = λ j h. (
+        approachPoint speeds (brakingLoss l t) (entry (l .blockStarts) j),
+        approach-is speeds (brakingLoss l t) (entry (l .blockStarts) j),
+        padded-within _ h (omega arith),
+      );
       ends = λ j h. padded-within _ h (omega arith);
       beyond = λ j h. (padded-beyond _ 32 j h, padded-beyond _ 32 j h);
     }

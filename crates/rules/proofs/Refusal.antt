@@ -48,8 +48,12 @@ module _ (r : Rule) (rs : List Rule) where
 
 pub first-broken-is : (rules : List Rule) → IsFirstBroken rules (firstBroken rules)
 unfolding firstBroken
-first-broken-is [] = record { none-broken = λ z i l. absurd (omega arith); all-kept = λ h. refl; found = λ n q. let z : _≡_ {A = ℕ} 0 1 = cc in
-    absurd (omega arith) }
+first-broken-is [] = record {
+  none-broken = λ z i l. absurd (omega arith);
+  all-kept = λ h. refl;
+  found = λ n q. let z : _≡_ {A = ℕ} 0 1 = cc in
+      absurd (omega arith);
+}
 first-broken-is (r ∷ rs) = go (r .kept) refl (first-broken-is rs)
   where
     go : (b : Bool) → r .kept ≡ b → IsFirstBroken rs (firstBroken rs) → IsFirstBroken (r ∷ rs) (cond b (firstBroken rs) (some (r .number)))

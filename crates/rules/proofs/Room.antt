@@ -57,7 +57,7 @@ module _ (file : List ℕ) (ok : fileRefusal file ≡ 0) where
       let a = admitted file ok k h in
       let last : lineOf file .points - 1 < lineOf file .points = omega (arith, a .rule3Line .points-least) in
       rw (entry-times (lineOf file) (trainOf file k) (lineOf file .points - 1) last)
-          (omega (arith, arrival-most (lineOf file) (trainOf file k) a (lineOf file .points - 1) last))
+      (omega (arith, arrival-most (lineOf file) (trainOf file k) a (lineOf file .points - 1) last))
 
   line-most : (k : ℕ) → k < trainCount file → length (lineOfTrain file k) ≤ 37
   unfolding lineOfTrain

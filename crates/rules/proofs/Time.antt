@@ -40,8 +40,12 @@ dwell-at [] ds r e k h = absurd (omega arith)
 dwell-at (s ∷ ss) [] r e k h = absurd (omega arith)
 dwell-at (s ∷ ss) (d ∷ ds) r e zero h = rw (eq-eqb s s refl)
 dwell-at (s ∷ ss) (d ∷ ds) r e (suc k) h =
-    let g : entry ss k ≡ s → ⊥ = λ q. omega (arith, r 0 (omega arith), rises-far (entry (s ∷ ss)) (suc (length ss)) (λ j m. omega (arith, r j m)) 1 (suc k)
-        (omega arith) h) in
+    let g : entry ss k ≡ s → ⊥ = λ q. omega (
+      arith,
+      r 0 (omega arith),
+      rises-far (entry (s ∷ ss)) (suc (length ss)) (λ j m. omega (arith, r j m)) 1 (suc k)
+          (omega arith) h,
+    ) in
     rw (ne-eqb (entry ss k) s g) (dwell-at ss ds (λ j m. r (suc j) (omega arith)) (suc-inj e) k (omega arith))
 
 pub dwell-none : (ss ds : List ℕ) (i : ℕ) → ((k : ℕ) → k < length ss → entry ss k ≡ i → ⊥) → dwellFrom ss ds i ≡ 0
@@ -60,7 +64,7 @@ dwell-is l t a i =
     record {
       at-stop = λ k s p q.
           let beside : dwellFrom (t .stops) (t .dwells) i ≡ entry (t .dwells) k =
-              rw (← s .here) (dwell-at (t .stops) (t .dwells) (a .rule8 .apart) (a .parallel .stops) k (s .there)) in
+          rw (← s .here) (dwell-at (t .stops) (t .dwells) (a .rule8 .apart) (a .parallel .stops) k (s .there)) in
           rw (ne-eqb i 0 (λ e. omega arith), ne-eqb (suc i) (l .points) (λ e. omega arith), beside);
       elsewhere = λ h. rw (dwell-none (t .stops) (t .dwells) i (λ k g e. h k (record { there = g; here = e })))
           (cond-zero (eqb i 0 || eqb (suc i) (l .points)));
@@ -131,7 +135,7 @@ module _ (l : Line) (t : Train) where
     time-most : (x y : ℕ) → (2592 ≤ x) ⊎ (2592 ≤ y) → cellTime (l .step) (root x) (root y) ≤ 1440000000
     time-most x y h =
         let g : 50 ≤ root x + root y = ⊎-elim (λ m. omega (arith, root-least 50 {w = x} (omega arith)))
-            (λ m. omega (arith, root-least 50 {w = y} (omega arith))) h in
+        (λ m. omega (arith, root-least 50 {w = y} (omega arith))) h in
         cell-time-is (l .step) (root x) (root y) (omega arith) .least 1440000000 (omega arith)
 
     dwell-most : (i k : ℕ) → IsStop t k i → suc i < l .points → dwell l t i ≤ 3600000000

@@ -136,7 +136,7 @@ pub record IsFirstBroken (rules : List Rule) (o : Option ℕ) : Type 0 where
   pub found :
       (n : ℕ) → o ≡ some n →
       (i : ℕ) × (i < length rules) × (getD rules i noRule .number ≡ n) × (getD rules i noRule .kept ≡ false) ×
-          ((j : ℕ) → j < i → getD rules j noRule .kept ≡ true)
+      ((j : ℕ) → j < i → getD rules j noRule .kept ≡ true)
 
 -- the number of refusal is 0 exactly if no rule is broken, and otherwise the lowest number of a broken rule
 pub record IsLowestBroken (rules : List Rule) (n : ℕ) : Type 0 where

@@ -69,7 +69,7 @@ module _ (l : Line) (t : Train) where
 
     pub buffers-written :
         {speeds′ times′ : List ℕ} → 0 ≡ runRefusalOn l t (length speeds) (length times) → speeds′ ≡ written speeds 0 (runRow l t) → times′ ≡
-            written times 0 (runTimes l t) →
+        written times 0 (runTimes l t) →
         (speeds′ ≡ speedsOn l t speeds times) × (times′ ≡ timesOn l t speeds times)
     unfolding speedsOn timesOn
     buffers-written e p q =
@@ -84,8 +84,13 @@ module _ (l : Line) (t : Train) where
   first-points a speeds times p q =
       let s = p ∙ written-row (runAt l t) (l .points) speeds in
       let m = q ∙ written-row (arrival l t (row (runAt l t) (l .points))) (l .points) times in
-      rw (s, m, take-at (row (runAt l t) (l .points)) _ (l .points) (length-row (runAt l t) (l .points)), take-at
-          (row (arrival l t (row (runAt l t) (l .points))) (l .points)) _ (l .points) (length-row _ (l .points)))
+      rw (
+        s,
+        m,
+        take-at (row (runAt l t) (l .points)) _ (l .points) (length-row (runAt l t) (l .points)),
+        take-at
+            (row (arrival l t (row (runAt l t) (l .points))) (l .points)) _ (l .points) (length-row _ (l .points)),
+      )
       (fastest l t a)
 
 -- ---- of a file
@@ -101,7 +106,7 @@ module _ (file : List ℕ) (k : ℕ) where
 
     pub same-buffers : (speeds times : List ℕ) →
         (speedsOn (lineOf file) (trainOf file k) speeds times ≡ speedsAfter file k speeds times) ×
-            (timesOn (lineOf file) (trainOf file k) speeds times ≡ timesAfter file k speeds times)
+        (timesOn (lineOf file) (trainOf file k) speeds times ≡ timesAfter file k speeds times)
     unfolding speedsOn timesOn speedsAfter timesAfter
     same-buffers speeds times = (rw (same-refusal (length speeds) (length times)), rw (same-refusal (length speeds) (length times)))
 

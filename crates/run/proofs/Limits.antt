@@ -132,9 +132,11 @@ module _ (l : Line) (t : Train) (a : Admitted l t) where
             let b = u .head-in .begun in
             let far = points-far k head q (u .head-in .there) in
             let off = u .tail-in .unended (omega (arith, u .head-in .there)) in
-            let near = points-far (suc tail) k (omega arith) (omega (arith, u .head-in .there)) in
-            (entry (l .limitPoints) k, record { from-tail = omega arith; to-head = omega arith; exists = omega arith },
-                record { there = omega (arith, u .head-in .there); begun = le-refl _; unended = λ m. a .rule4 .rise k m })
+            let near = points-far (suc tail) k (omega arith) (omega (arith, u .head-in .there)) in (
+              entry (l .limitPoints) k,
+              record { from-tail = omega arith; to-head = omega arith; exists = omega arith },
+              record { there = omega (arith, u .head-in .there); begun = le-refl _; unended = λ m. a .rule4 .rise k m },
+            )
 
     -- and each cell that it covers has one of them
     covered-by : (c : ℕ) → Covers l t i c → (k : ℕ) × (tail ≤ k) × (k ≤ head) × (cellLimit l c ≡ entry (l .limits) k)

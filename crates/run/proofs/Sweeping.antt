@@ -98,5 +98,5 @@ module _ (line : decodedLine.Line) (train : decodedTrain.Train) (a : Admitted (a
       let h : v .head < line .«limit_count» = rw (x .head) (next-below (line .«limit_points») (line .«limit_count») (u .head) (i + 1) (r .0)) in
       let m : v .tail < line .«limit_count» = rw (x .tail) (next-below (line .«limit_points») (line .«limit_count») (u .tail) (i + 1 - n) (r .1)) in
       covered-next l t a (line .«limit_points») (line .«limit_count») n top i (c .3)
-          (λ k g. sym (entry-row (entry (line .«limit_points»)) (line .«limit_count») k g)) w (x .head) (x .tail)
+      (λ k g. sym (entry-row (entry (line .«limit_points»)) (line .«limit_count») k g)) w (x .head) (x .tail)
       (x .lowest ∙ sym (by-array top (v .tail) (v .head + 1 - v .tail) (omega arith)))

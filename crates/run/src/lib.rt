@@ -30,7 +30,9 @@ ghost use Rattle.run.specs.Calls.{runRefusalOn, speedsOn, timesOn};
 fn write_run(line: Line, train: Train, speeds: &mut [u32], times: &mut [u64])
     requires { ⌜ Admitted (asLine line) (asTrain train) ⌝ }
     requires { ⌜ (line .points ≤ length (now speeds)) × (line .points ≤ length (now times)) ⌝ }
-    ensures { λ _. ⌜ (now (speeds .exit) ≡ written (now (speeds .entry)) 0 (runRow (asLine line) (asTrain train))) × (now (times .exit) ≡ written (now (times .entry)) 0 (runTimes (asLine line) (asTrain train))) ⌝ }
+    ensures { λ _. ⌜
+        (now (speeds .exit) ≡ written (now (speeds .entry)) 0 (runRow (asLine line) (asTrain train)))
+        × (now (times .exit) ≡ written (now (times .entry)) 0 (runTimes (asLine line) (asTrain train))) ⌝ }
 {
     write_forward(line, train, speeds);
     let loss = narrow(values::braking_loss(line, train));
@@ -43,7 +45,8 @@ pub fn run_train(line: Line, train: Train, speeds: &mut [u32], times: &mut [u64]
     ensures number { λ r. ⌜ r ≡ runRefusalOn (asLine line) (asTrain train) (length (now (speeds .entry))) (length (now (times .entry))) ⌝ }
     ensures speeds { λ r. ⌜ now (speeds .exit) ≡ speedsOn (asLine line) (asTrain train) (now (speeds .entry)) (now (times .entry)) ⌝ }
     ensures times { λ r. ⌜ now (times .exit) ≡ timesOn (asLine line) (asTrain train) (now (speeds .entry)) (now (times .entry)) ⌝ }
-    ensures fastest { λ r. ⌜ (r ≡ 0 → FastestRun (asLine line) (asTrain train) (take (line .points) (now (speeds .exit))) (take (line .points) (now (times .exit)))) ⌝ }
+    ensures fastest { λ r. ⌜ (r ≡ 0 →
+        FastestRun (asLine line) (asTrain train) (take (line .points) (now (speeds .exit))) (take (line .points) (now (times .exit)))) ⌝ }
 {
     let number = judging::refusal_on(line, train);
     if number != 0 {
@@ -66,7 +69,9 @@ pub fn run(file: &[u8], k: u64, speeds: &mut [u32], times: &mut [u64]) -> u64
     ensures number { λ r. ⌜ r ≡ runRefusal (now (file .entry)) k (length (now (speeds .entry))) (length (now (times .entry))) ⌝ }
     ensures speeds { λ r. ⌜ now (speeds .exit) ≡ speedsAfter (now (file .entry)) k (now (speeds .entry)) (now (times .entry)) ⌝ }
     ensures times { λ r. ⌜ now (times .exit) ≡ timesAfter (now (file .entry)) k (now (speeds .entry)) (now (times .entry)) ⌝ }
-    ensures fastest { λ r. ⌜ (r ≡ 0 → FastestRun (lineOf (now (file .entry))) (trainOf (now (file .entry)) k) (take (pointCount (now (file .entry))) (now (speeds .exit))) (take (pointCount (now (file .entry))) (now (times .exit)))) ⌝ }
+    ensures fastest { λ r. ⌜ (r ≡ 0 →
+        FastestRun (lineOf (now (file .entry))) (trainOf (now (file .entry)) k) (take (pointCount (now (file .entry))) (now (speeds .exit)))
+        (take (pointCount (now (file .entry))) (now (times .exit)))) ⌝ }
 {
     let opened = line::open_train(file, k);
     if opened.number != 0 {

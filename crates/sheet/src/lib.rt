@@ -76,7 +76,7 @@ fn fresh(blocks: u64) -> Sheet
     }
 }
 
-// Adds a train to a sheet with any contents.
+// Adds a train to a sheet with any contents. A refusal leaves the sheet as it was.
 pub fn with_hold(sheet: Sheet, hold: HoldRecord) -> Addition
     ensures { λ r. ⌜ asAddition r ≡ rules.added (asSheet sheet) (asHold hold) ⌝ }
 {
@@ -110,8 +110,7 @@ pub fn add(sheet: &mut Sheet, hold: HoldRecord) -> Answer
 pub fn headway(first: HoldRecord, second: HoldRecord) -> HeadwayAnswer
     ensures { λ r. ⌜ asHeadwayAnswer r ≡ rules.headway (asHold first) (asHold second) ⌝ }
 {
-    let blocks = first.blocks;
-    let opening = open_sheet(blocks);
+    let opening = open_sheet(first.blocks);
     if opening.number != 0 {
         return HeadwayAnswer::Refused(opening.number);
     }

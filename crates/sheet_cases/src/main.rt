@@ -1,13 +1,14 @@
 // Reads calls on a sheet from standard input, and prints what each answers and leaves. The input is numbers of 8 bytes, low byte
 // first: each call is its kind and then its arguments (tests/sheet_cases.py).
+use holds::HoldRecord;
 use sheet::Addition;
 use sheet::Answer;
 use sheet::HeadwayAnswer;
-use sheet::HoldRecord;
 use sheet::Sheet;
 ghost use mathlib.Core.Path.{_≡_};
 ghost use Rattle.rules.specs.Calls.{added};
-ghost use Rattle.sheet.specs.Values.{asHold, asSheet, asAddition};
+ghost use Rattle.holds.specs.Values.{asHold};
+ghost use Rattle.sheet.specs.Values.{asSheet, asAddition};
 
 const MOST_CALLS: u64 = 100000;
 
@@ -147,11 +148,11 @@ fn lend(sheet: Sheet, hold: HoldRecord) -> Addition
 }
 
 fn open() -> Sheet {
-    let opened = sheet::open_sheet(read_number());
+    let opening = sheet::open_sheet(read_number());
     io::write_all(1, b"opened");
-    print_number(opened.number);
+    print_number(opening.number);
     io::write_all(1, b"\n");
-    opened.sheet
+    opening.sheet
 }
 
 fn add(sheet: Sheet) -> Sheet {
@@ -186,8 +187,8 @@ fn called(kind: u64, sheet: Sheet) -> Sheet {
 }
 
 fn main() {
-    let opened = sheet::open_sheet(1);
-    let mut sheet = opened.sheet;
+    let opening = sheet::open_sheet(1);
+    let mut sheet = opening.sheet;
     let mut calls: u64 = 0;
     while calls < MOST_CALLS {
         let kind = read_number();

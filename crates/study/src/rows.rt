@@ -56,7 +56,9 @@ fn block_of(answer: Answer) -> u64
 fn time_train(line: Line, bytes: &[u8], speeds: &mut [u32], times: &mut [u64]) -> Timed
     requires { ⌜ Admitted (asLine line) (trainAt (now bytes) 0) × Decodes (now bytes) ⌝ }
     requires { ⌜ (line .points ≤ length (now speeds)) × (line .points ≤ length (now times)) ⌝ }
-    ensures { λ r. ⌜ (asHold (r .hold) ≡ holdOf (asLine line) (trainAt (now (bytes .entry)) 0)) × (r .run ≡ lastArrival (asLine line) (trainAt (now (bytes .entry)) 0)) ⌝ }
+    ensures { λ r. ⌜
+        (asHold (r .hold) ≡ holdOf (asLine line) (trainAt (now (bytes .entry)) 0))
+        × (r .run ≡ lastArrival (asLine line) (trainAt (now (bytes .entry)) 0)) ⌝ }
     ensures { λ _. ⌜ (length (now (speeds .exit)) ≡ length (now (speeds .entry))) × (length (now (times .exit)) ≡ length (now (times .entry))) ⌝ }
 {
     let held = hold::hold_train(line, decode_train(bytes), speeds, times);

@@ -53,7 +53,7 @@ headway-accepted first second =
     let opening = opened (first .blocks) in
     let one = added (opening .sheet) first in
     go (opening .number) (eqb (opening .number) 0) refl (one .answer) (numbered (opening .sheet) first) (added (one .sheet) second .answer)
-        (numbered (one .sheet) second)
+    (numbered (one .sheet) second)
   where
     Told : HeadwayAnswer → Type 0
     Told r = headwayByNumber r .number ≡ 0 → r ≡ headwayOf (headwayByNumber r .headway)

@@ -44,13 +44,13 @@ begun c = c .before .before
 loss :
     (c : tie.Then1 Inv-loop μ-loop) →
     c .before .before .before .before .before .before .before .before .before .braking-loss .result ≡
-        brakingLoss (asLine (start c .args .line)) (asTrain (start c .args .train))
+    brakingLoss (asLine (start c .args .line)) (asTrain (start c .args .train))
 loss c = c .before .before .before .before .before .before .before .before .before .braking-loss .ensures
 
 cells :
     (c : tie.Then1 Inv-loop μ-loop) →
     c .before .before .before .before .before .before .before .before .train-cells .result ≡
-        trainCells (asLine (start c .args .line)) (asTrain (start c .args .train))
+    trainCells (asLine (start c .args .line)) (asTrain (start c .args .train))
 cells c = c .before .before .before .before .before .before .before .before .train-cells .ensures
 
 -- one of the blocks
@@ -81,7 +81,7 @@ point-here : (c : tie.After-dwell-at Inv-loop μ-loop) → suc (found c .approac
 point-here c =
     let o = in-loop c in
     point-on _ _ (start o .pre .0) (o .before .before .loop .inv) (in-block o) (start o .args .speeds .now) (start o .pre .1 .1 .0) (loss o)
-        (start-here (sized c)) (found c .approach-point .ensures .0)
+    (start-here (sized c)) (found c .approach-point .ensures .0)
 
 -- the stops behind it, the next stop, and the dwell
 behind : (c : tie.After-dwell-at Inv-loop μ-loop) →
@@ -110,7 +110,7 @@ dwelt c =
 clear-here :
     (c : tie.After-size2 Inv-loop μ-loop) →
     c .size2 .result + in-loop (begun c) .before .before .before .before .before .before .before .before .train-cells .result < start
-        (in-loop (begun c)) .args .line .points
+    (in-loop (begun c)) .args .line .points
 clear-here c =
     let o = in-loop (begun c) in
     clear-on _ _ (start o .pre .0) (o .before .before .loop .inv) (in-block o) (start o .args .times .now) (start o .pre .1 .1 .1) (end-here c) (cells o)
@@ -142,7 +142,7 @@ approach-point-requires : tie.Need-approach-point-requires Inv-loop μ-loop
 approach-point-requires c κs =
     let o = c .before in
     let asked = approach-asks _ _ (start o .pre .0) (o .before .before .loop .inv) (in-block o) (start o .args .speeds .now) (start o .pre .1 .1 .0)
-        (loss o) (start-here c) (start o .pre .1 .0 .0) in
+    (loss o) (start-here c) (start o .pre .1 .0 .0) in
     (asked .0, (asked .1, asked .2))
 
 stop-from-requires : tie.Need-stop-from-requires Inv-loop μ-loop
@@ -196,8 +196,12 @@ add-hold-3 : tie.Need-add-hold-3 Inv-loop μ-loop
 add-hold-3 c =
     let e = c .before in
     let o = in-loop (begun e) in
-    omega (arith, clear-most _ _ (start o .pre .0) (o .before .before .loop .inv) (in-block o) (start o .args .times .now) (start o .pre .1 .1 .1)
-        (end-here e) (cells o), o .before .before .before .before .before .before .before .clearing-time .ensures .1)
+    omega (
+      arith,
+      clear-most _ _ (start o .pre .0) (o .before .before .loop .inv) (in-block o) (start o .args .times .now) (start o .pre .1 .1 .1)
+          (end-here e) (cells o),
+      o .before .before .before .before .before .before .before .clearing-time .ensures .1,
+    )
 
 mul-hold-4 : tie.Need-mul-hold-4 Inv-loop μ-loop
 mul-hold-4 c = omega (arith, few-blocks (in-loop (begun (c .before))))
@@ -219,12 +223,12 @@ loop-again c =
     let b = start-here (sized d) in
     let p = found d .approach-point .ensures .0 in
     holds-on _ _ (start o .pre .0) (o .before .before .loop .inv) (in-block o)
-        (point-is _ _ (start o .pre .0) (o .before .before .loop .inv) (in-block o) (start o .args .speeds .now) (start o .pre .1 .1 .0) (loss o) b p)
-        (next-stop d)
+    (point-is _ _ (start o .pre .0) (o .before .before .loop .inv) (in-block o) (start o .args .speeds .now) (start o .pre .1 .1 .0) (loss o) b p)
+    (next-stop d)
     (begin-is _ _ (start o .pre .0) (o .before .before .loop .inv) (in-block o) (start o .args .speeds .now) (start o .pre .1 .1 .0) (loss o) b p
-        (start o .args .times .now) (start o .pre .1 .1 .1) (dwelt d))
+    (start o .args .times .now) (start o .pre .1 .1 .1) (dwelt d))
     (end-is _ _ (start o .pre .0) (o .before .before .loop .inv) (in-block o) (start o .args .times .now) (start o .pre .1 .1 .1) (end-here e) (cells o)
-        (o .before .before .before .before .before .before .before .clearing-time .ensures .0))
+    (o .before .before .before .before .before .before .before .clearing-time .ensures .0))
 
 returns : tie.Need-returns Inv-loop μ-loop
 returns c =

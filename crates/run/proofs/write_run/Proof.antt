@@ -11,18 +11,23 @@ use borrow.Author.Needs.{needs}
 use Rattle.run.proofs.write_run.Statement.{statement}
 use Rattle.run.proofs.write_run.Tie as tie
 
+abbrev forward : tie.After-size → tie.After-write-forward
+forward c = c .before .before .before .before .before
+
+abbrev start : tie.After-size → tie.Start
+start c = forward c .before .before .before .before
+
 -- the buffer after both sweeps
 abbrev Run : (a : tie.Start) → List ℕ → Type 0
 Run a s = s ≡ runRow (asLine (a .args .line)) (asTrain (a .args .train)) ++ drop (a .args .line .points) (a .args .speeds .now)
 
-run-done : (c : tie.After-write-backward) → Run (c .before .before .before .before .before .before .before .before .before .before .before)
-    (c .write-backward .last .1 .1 .0)
+run-done : (c : tie.After-write-backward) → Run (start (c .before .before)) (c .write-backward .last .1 .1 .0)
 run-done c =
-    let a = c .before .before .before .before .before .before .before .before .before .before .before in
-    sweeps-run (asLine (a .args .line)) (asTrain (a .args .train)) (a .args .speeds .now) _
-        (c .before .before .before .before .before .before .before .write-forward .ensures) _
-    (rw (c .before .before .size .ensures .0, c .before .before .before .narrow .ensures, c .before .before .before .before .braking-loss .ensures) at
-        (c .write-backward .ensures))
+    let sized = c .before .before in
+    let loss = sized .before in
+    let a = start sized in
+    sweeps-run (asLine (a .args .line)) (asTrain (a .args .train)) (a .args .speeds .now) _ (forward sized .write-forward .ensures) _
+    (rw (sized .size .ensures .0, loss .narrow .ensures, loss .before .braking-loss .ensures) at (c .write-backward .ensures))
 
 write-forward-requires : tie.Need-write-forward-requires
 write-forward-requires c κs = search needs
@@ -38,19 +43,27 @@ size-requires c κs = search needs
 
 write-backward-requires : tie.Need-write-backward-requires
 write-backward-requires c κs =
-    let a = c .before .before .before .before .before .before .before .before .before .before in
-    let e = c .before .before .before .before .before .before .write-forward .ensures in
-    let long = row-long _ _ (a .args .speeds .now) e (a .pre .1 .0) in (
-      (omega (arith, a .pre .0 .rule3Line .points-least, c .before .size .ensures .0), omega (arith, a .pre .1 .0, c .before .size .ensures .0), omega
-          (arith, loss-most _ _ (a .pre .0), c .before .before .narrow .ensures, c .before .before .before .braking-loss .ensures)),
-      λ k h. forward-most _ _ _ _ e (a .pre .0) k (omega (arith, c .before .size .ensures .0)),
+    let sized = c .before in
+    let loss = sized .before in
+    let a = start sized in
+    let e = forward sized .write-forward .ensures in
+    let long = row-long _ _ (a .args .speeds .now) e (a .pre .1 .0) in
+    let points = sized .size .ensures .0 in (
+      (
+        omega (arith, a .pre .0 .rule3Line .points-least, points),
+        omega (arith, a .pre .1 .0, points),
+        omega (arith, loss-most _ _ (a .pre .0), loss .narrow .ensures, loss .before .braking-loss .ensures),
+      ),
+      λ k h. forward-most _ _ _ _ e (a .pre .0) k (omega (arith, points)),
     )
 
 write-times-requires : tie.Need-write-times-requires
 write-times-requires c κs =
-    let a = c .before .before .before .before .before .before .before .before .before .before .before .before .before .before .before in
-    let e = run-done (c .before .before .before .before) in
-    (a .pre .0, ((omega (arith, run-long _ _ (a .args .speeds .now) e (a .pre .1 .0), a .pre .1 .0), a .pre .1 .1), run-entries _ _ (a .args .speeds .now) e))
+    let swept = c .before .before .before .before in
+    let a = start (swept .before .before) in
+    let e = run-done swept in
+    let long = run-long _ _ (a .args .speeds .now) e (a .pre .1 .0) in
+    (a .pre .0, ((omega (arith, long, a .pre .1 .0), a .pre .1 .1), run-entries _ _ (a .args .speeds .now) e))
 
 same-length : tie.Need-same-length
 same-length c = search needs
@@ -59,7 +72,10 @@ same-length-2 : tie.Need-same-length-2
 same-length-2 c = search needs
 
 returns : tie.Need-returns
-returns c = (run-written _ _ (c .before .before .before .before .before .before .before .before .before .before .before .before .before .before .before .before .before .before .args .speeds .now) (run-done (c .before .before .before .before .before .before .before)), c .before .before .write-times .ensures)
+returns c =
+    let timed = c .before .before in
+    let swept = timed .before .before .before .before .before in
+    (run-written _ _ (start (swept .before .before) .args .speeds .now) (run-done swept), timed .write-times .ensures)
 
 pub write-run-spec : {M : Type 1} → statement M
 write-run-spec =

@@ -174,9 +174,8 @@ module _ {M : Type 1} (𝓤 : URA M) (H : Heap 𝓤) (A : Atoms 𝓤) (at-mem : 
         walked 𝓤 H A add.ended stayed (add.clauses 𝓤 H A at-mem run) (WpFn 𝓤 H C Λ code.function)
         (λ κs. (ptr-vals, (LL.vals R.the-type R′.the-laws, tt)))
         (λ κs. (mut-tells (named 0) (κs .0) S.the-row, (LL.tells R.the-type R′.the-laws, tt)))
-        (λ κs qs bounds a _ are.
-        let (b, o) = a .0 .ptr in
-        via 𝓤 _ (fst∗ 𝓤 _ (emp 𝓤)) (walk W (κs .0) (qs .0) b o (a .0 .name) (a .0 .now) (a .1 .0) (are .1 .0) C Λ fm known))
+        (λ κs qs bounds a _ are. via 𝓤 _ (fst∗ 𝓤 _ (emp 𝓤))
+        (walk W (κs .0) (qs .0) (a .0 .ptr .0) (a .0 .ptr .1) (a .0 .name) (a .0 .now) (a .1 .0) (are .1 .0) C Λ fm known))
 
     add-meets :
         (𝓣 : Tables 𝓤 H) → Triple 𝓤 (𝓣 .C #sheet·with-hold) WithHold →
@@ -193,9 +192,8 @@ pub add-spec : {M : Type 1} → stated.statement M
 unfolding code.routine tablesOf
 add-spec 𝓤 H 𝓜 𝓖 𝓡 =
     let A = 𝓖 .A in
-    let called = tables 𝓤 H 𝓜 𝓡 code.env in
-    let known =
-    cited 𝓤 H (WithHold 𝓤 H A (𝓜 .mem) (𝓡 .run)) 𝓜 𝓡 code.env #sheet·with-hold with-hold-def.routine code.calls-sheet·with-hold
-    (with-hold-thm.met 𝓤 H 𝓜 𝓖 𝓡) in
-    entered 𝓤 H (tripleOf 𝓤 H A add.signature (add.spec 𝓤 H A (𝓜 .mem) (𝓡 .run))) (called .C) (called .Λ) #sheet·add code.function
-    (code.unfolded 𝓤 H 𝓜 𝓡) (add-meets 𝓤 H A (𝓜 .mem) (𝓡 .run) (givenOf 𝓤 H 𝓜 𝓖) (tablesOf 𝓤 H 𝓜 called) known)
+    let asked = WithHold 𝓤 H A (𝓜 .mem) (𝓡 .run) in
+    let known = cited 𝓤 H asked 𝓜 𝓡 code.env #sheet·with-hold with-hold-def.routine code.calls-sheet·with-hold (with-hold-thm.met 𝓤 H 𝓜 𝓖 𝓡) in
+    let calls = tables 𝓤 H 𝓜 𝓡 code.env in
+    entered 𝓤 H (tripleOf 𝓤 H A add.signature (add.spec 𝓤 H A (𝓜 .mem) (𝓡 .run))) (calls .C) (calls .Λ) #sheet·add code.function
+    (code.unfolded 𝓤 H 𝓜 𝓡) (add-meets 𝓤 H A (𝓜 .mem) (𝓡 .run) (givenOf 𝓤 H 𝓜 𝓖) (tablesOf 𝓤 H 𝓜 calls) known)

@@ -1,7 +1,6 @@
 -- `headway`: the opening, then the first addition's answer by its case. Assumes nothing.
 use Prim.Native.Nat.{ℕ}
 use mathlib.Core.Path.{_≡_, ap}
-use native.Mathlib.Omega.{arith}
 use borrow.Author.Needs.{needs}
 use borrow.Author.Tests.{eq-eqb, ne-eqb}
 use Rattle.rules.specs.Calls.{HeadwayAnswer, Opening, Addition, accepted, refused, noHeadway, startOrRefusal, opened, added, headway}

@@ -16,7 +16,8 @@ fresh-requires c κs = search needs
 
 returns : tie.Need-returns
 returns c =
-    let e = opened-refused (c .before .before .before .args .blocks) (failed (c .before .before .count-kept .ensures) (c .before .if1 .taken)) in
+    let s = c .before in
+    let e = opened-refused (s .before .before .args .blocks) (failed (s .before .count-kept .ensures) (s .if1 .taken)) in
     (rw (e, c .fresh .ensures), λ z. absurd (search needs))
 
 fresh-requires-2 : tie.Need-fresh-requires-2
@@ -24,8 +25,9 @@ fresh-requires-2 c κs = search needs
 
 returns-2 : tie.Need-returns-2
 returns-2 c =
-    let blocks = c .before .before .before .args .blocks in
-    let e = opened-fresh blocks (passed (c .before .before .count-kept .ensures) (c .before .if1 .left)) in
+    let s = c .before in
+    let blocks = s .before .before .args .blocks in
+    let e = opened-fresh blocks (passed (s .before .count-kept .ensures) (s .if1 .left)) in
     let d : ThirdDemand blocks (opened blocks .sheet) = opened-demand blocks (ap (λ r. r .number) e) in
     (rw (e, c .fresh2 .ensures), λ z. rw (c .fresh2 .ensures) (rw e at d))
 

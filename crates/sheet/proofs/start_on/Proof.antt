@@ -1,7 +1,7 @@
 -- `start_on`: the answer by its case. Assumes nothing.
 use mathlib.Core.Path.{_≡_, sym, ap, _∙_}
 use borrow.Author.Needs.{needs}
-use Rattle.rules.specs.Calls.{Answer, HeadwayAnswer, Addition, startOrRefusal}
+use Rattle.rules.specs.Calls.{Answer, Addition, startOrRefusal}
 use Rattle.sheet.specs.Values.{asAnswer}
 use Rattle.sheet.proofs.start_on.Statement.{statement}
 use Rattle.sheet.proofs.start_on.Tie as tie

@@ -14,7 +14,7 @@ use Rattle.stops.proofs.dwell_at.Tie as tie
 in-use : (c : tie.Else1) → c .before .before .args .next < min (c .before .before .args .count) 64
 in-use c =
     rw length-row at (here-there (used (c .before .before .args .stops .now) (c .before .before .args .count))
-        (sym (c .before .stop-here .ensures) ∙ not-false _ (c .if1 .left)) .0)
+    (sym (c .before .stop-here .ensures) ∙ not-false _ (c .if1 .left)) .0)
 
 stop-here-requires : tie.Need-stop-here-requires
 stop-here-requires c κs = search needs

@@ -46,7 +46,7 @@ returns-2 c =
     let input = s .before .before .before .before .args .input .now in
     let e = c .refusal-printed2 .ensures in
     let same = refused-printed input (omega (arith, s .before .before .if1 .left)) _ (omega (arith, length-replicate {A = ℕ} 2390 0)) (told s)
-        (test .if2 .taken) .1 in
+    (test .if2 .taken) .1 in
     let put = e .0 ∙ ap (padded 2390) same in
     (put, ((e .1 ∙ ap length same, omega (arith, e .1, ap length same, program-most input)), ap length put ∙ length-row _ 2390))
 
@@ -55,7 +55,7 @@ returns-3 c =
     let s = c .before .before .before in
     let input = s .before .before .before .before .args .input .now in
     let (fits, same) = sheet-printed input (omega (arith, s .before .before .if1 .left)) _ (omega (arith, length-replicate {A = ℕ} 2390 0)) (told s)
-        (c .if2 .left) in
+    (c .if2 .left) in
     let e = s .study .ensures in
     let z = sym (told s) ∙ c .if2 .left in
     let put = printed _ 2390 fits z (e .1 .0) in

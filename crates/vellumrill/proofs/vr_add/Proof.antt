@@ -96,15 +96,15 @@ module _ {M : Type 1} (𝓤 : URA M) (H : Heap 𝓤) (A : Atoms 𝓤) (W : Given
 
   exits : (r : Step) → Said 𝓤 H A at-mem run h k r → AddedIs (r .answer)
       → ent 𝓤 (⋆ 𝓤 H A (‵ (fobs γ (S.the-row .coded .code (r .sheet))) ∷ ‵ (fbor κ (Body (mem S.the-row) b o γ)) ∷ ‵ (flft κ q) ∷ ‵ (flft κ′ q′) ∷
-          ‵ (fshr-bor κ′ (λ s. partAt R.the-row s k b′ o′)) ∷ ‵ (fres γ′ (R.the-row .coded .code k)) ∷ [])) (Post (added-val (r .answer)))
+      ‵ (fshr-bor κ′ (λ s. partAt R.the-row s k b′ o′)) ∷ ‵ (fres γ′ (R.the-row .coded .code k)) ∷ [])) (Post (added-val (r .answer)))
   exits r e is =
       qed W (‵ (fobs γ (S.the-row .coded .code (r .sheet))) ∷ ‵ (fbor κ (Body (mem S.the-row) b o γ)) ∷ ‵ (flft κ q) ∷ ‵ (flft κ′ q′) ∷
-          ‵ (fshr-bor κ′ (λ s. partAt R.the-row s k b′ o′)) ∷ ‵ (fres γ′ (R.the-row .coded .code k)) ∷ []) ∵
+      ‵ (fshr-bor κ′ (λ s. partAt R.the-row s k b′ o′)) ∷ ‵ (fres γ′ (R.the-row .coded .code k)) ∷ []) ∵
       suffices ! _ (ends-at 𝓤 H A add.ended stayed (add.clauses 𝓤 H A at-mem run) W (((κ, (κ′, tt)), (q, (q′, tt)), tt, x, at), tt) (added-val (r .answer))
-          (r .answer) (r .sheet, (tt, tt)) (tt, (tt, tt))) $ says ! e $
+      (r .answer) (r .sheet, (tt, tt)) (tt, (tt, tt))) $ says ! e $
       nothing ! $ move ! (4 ∷ 0 ∷ []) $ join ! $ move ! (3 ∷ 0 ∷ []) $ join ! $ frame ! $ feqI ! (List Val) (vptr b o ∷ []) (vptr b o ∷ []) refl $ fjoin3 ! $
       feqI ! (List Val) (vptr b′ o′ ∷ []) (vptr b′ o′ ∷ []) refl $ move ! (0 ∷ 3 ∷ 2 ∷ []) $ fjoin3 ! $ nothing ! $ move ! (1 ∷ 0 ∷ []) $ fjoin ! $ move !
-          (1 ∷ 0 ∷ []) $ fjoin ! $
+      (1 ∷ 0 ∷ []) $ fjoin ! $
       owned ! E.the-row (Is E.the-row) (added-makes 𝓤 H A) (r .answer) _ is $ move ! (1 ∷ 0 ∷ []) $ done !
 
   -- the call: what `step_by_number` is passed, and what it asks, which is had for nothing
@@ -121,52 +121,52 @@ module _ {M : Type 1} (𝓤 : URA M) (H : Heap 𝓤) (A : Atoms 𝓤) (W : Given
     walk =
         qed W ((‵ (flft κ q) ⊛ (‵ (flft κ′ q′) ⊛ ‵ ftrue)) ∷ ‵ (owns (MutRef (named 0) κ S.the-row ∷ ShrRef (named 1) κ′ R.the-row ∷ []) x at) ∷ []) ∵
         move ! (1 ∷ []) $ fsplit ! $ fsplit3 ! $ drop ! $ move ! (2 ∷ []) $ fsplit ! $ fsplit3 ! $ drop ! $ move ! (5 ∷ []) $ split ! $ move !
-            (1 ∷ []) $ split ! $ keep ! (6 ∷ 7 ∷ 2 ∷ 4 ∷ 0 ∷ 3 ∷ []) $
+        (1 ∷ []) $ split ! $ keep ! (6 ∷ 7 ∷ 2 ∷ 4 ∷ 0 ∷ 3 ∷ []) $
         -- [what observes the sheet; its borrow; its token; the hold record's fractured borrow; its token; what observes it]
         enter ! C Λ code.function (vptr b o ∷ vptr b′ o′ ∷ []) _ $
         alloc1 ! (λ l₀. alloc1 ! (λ l₁. alloc1 ! (λ l₂. alloc1 !
-            (λ l₃. alloc1 ! (λ l₄. alloc1 ! (λ l₅. alloc0 ! $ params1 ! $ pass1 ! (init ! 8 refl (tt, tt)) $ pass1 ! (init ! 6 refl (tt, tt)) $ pass0 ! $
+        (λ l₃. alloc1 ! (λ l₄. alloc1 ! (λ l₅. alloc0 ! $ params1 ! $ pass1 ! (init ! 8 refl (tt, tt)) $ pass1 ! (init ! 6 refl (tt, tt)) $ pass0 ! $
         -- the borrow of the sheet is opened
         move ! (12 ∷ 13 ∷ 14 ∷ []) $ opens ! tt S.the-row {h = h} b o
-            (λ vs. spelt ! S.the-row (Is S.the-row) (shows 𝓤 H A S.the-row) (LL.vals S.the-type S′.the-laws)
-            (LL.tells S.the-type S′.the-laws) fullShare h vs b o $
+        (λ vs. spelt ! S.the-row (Is S.the-row) (shows 𝓤 H A S.the-row) (LL.vals S.the-type S′.the-laws)
+        (LL.tells S.the-type S′.the-laws) fullShare h vs b o $
         move ! (1 ∷ []) $ facts ! S.the-row (Is S.the-row) (shows 𝓤 H A S.the-row) h (sheet-val h ∷ []) (λ is.
         -- `let before = *sheet`
         assigns ! (of-opd ! (load ! (from ! (hop ! (look ! 12 refl) (stop !))) (look-raw ! 0 refl))) (from ! (stop !))
-            (init ! 8 refl (sheet-typed 𝓤 H A W h is)) $
+        (init ! 8 refl (sheet-typed 𝓤 H A W h is)) $
         -- `let record = *hold`
         move ! (16 ∷ 17 ∷ []) $ looks ! tt R.the-row (Is R.the-row) (shows 𝓤 H A R.the-row) (LL.vals R.the-type R′.the-laws)
-            (LL.tells R.the-type R′.the-laws) (LL.copy R.the-type R′.the-copy 𝓤 H A W) k b′ o′ (λ u us.
+        (LL.tells R.the-type R′.the-laws) (LL.copy R.the-type R′.the-copy 𝓤 H A W) k b′ o′ (λ u us.
         spelt ! R.the-row (Is R.the-row) (shows 𝓤 H A R.the-row) (LL.vals R.the-type R′.the-laws) (LL.tells R.the-type R′.the-laws) u k us b′ o′ $ move !
-            (1 ∷ []) $ peeks ! R.the-row (Is R.the-row) (shows 𝓤 H A R.the-row) k (hold-val k ∷ []) (λ hold-is. move ! (1 ∷ 0 ∷ []) $
+        (1 ∷ []) $ peeks ! R.the-row (Is R.the-row) (shows 𝓤 H A R.the-row) k (hold-val k ∷ []) (λ hold-is. move ! (1 ∷ 0 ∷ []) $
         assigns ! (of-opd ! (load ! (from ! (hop ! (look ! 14 refl) (stop !))) (look-raw ! 0 refl))) (from ! (stop !))
-            (init ! 10 refl (hold-typed 𝓤 H A W k hold-is)) $
+        (init ! 10 refl (hold-typed 𝓤 H A W k hold-is)) $
         shuts ! tt R.the-row u k (hold-val k ∷ []) b′ o′ $ move ! (2 ∷ 3 ∷ 4 ∷ 5 ∷ []) $
         -- [the sheet's cell; the open borrow; obs; auth; the hold record's token; its fractured borrow; _5; …; _4; …; _3; …; _2; …; _1; …;
         -- _0; …; what observes the hold record]
         -- `let step = step_by_number(before, record)`
         use0 W (raw (StepByNumber 𝓤 H A at-mem run .pre to-step-by-number)) (goes is hold-is) $
         calls-at ! fm (StepByNumber 𝓤 H A at-mem run) known to-step-by-number
-            (and-then ! (load ! (from ! (stop !)) (look ! 11 refl)) (and-then ! (load ! (from ! (stop !)) (look ! 9 refl)) (no-more !))) (λ v.
+        (and-then ! (load ! (from ! (stop !)) (look ! 11 refl)) (and-then ! (load ! (from ! (stop !)) (look ! 9 refl)) (no-more !))) (λ v.
         use1 W (later (some (λ (r : Step). (‵ ftrue ⊛ ‵ (D.the-row .own r (v ∷ []))) ⊛ raw
-            (ensured 𝓤 H A step-by-number.ended (step-by-number.clauses 𝓤 H A at-mem run) tt (h, (k, tt)) tt r)))) (id⊢ 𝓤 _) $ await ! tt $ pick ! (λ r.
+        (ensured 𝓤 H A step-by-number.ended (step-by-number.clauses 𝓤 H A at-mem run) tt (h, (k, tt)) tt r)))) (id⊢ 𝓤 _) $ await ! tt $ pick ! (λ r.
         split ! $ move ! (1 ∷ []) $ use1 W (raw (fact 𝓤 (Said 𝓤 H A at-mem run h k r))) (said 𝓤 H A at-mem run h k r) $ heard !
-            (Said 𝓤 H A at-mem run h k r) (λ e. split ! $ drop ! $
+        (Said 𝓤 H A at-mem run h k r) (λ e. split ! $ drop ! $
         facts ! D.the-row (Is D.the-row) (shows 𝓤 H A D.the-row) r (v ∷ []) (λ made.
         land ! (from ! (stop !)) (init ! 6 refl (step-typed 𝓤 H A W r v made)) $
         rewrite ! 6 (λ (w : Val). ‵ (fat fullShare D′.mir l₅ 0 w)) (ap only (LL.tells D.the-type D′.the-laws r _ made)) refl $
         -- `*sheet = step.sheet`
         assigns ! (of-opd ! (load ! (from ! (fld ! refl (stop !))) (look-in ! 6 (sub ! 1 refl (whole !))))) (from ! (hop ! (look ! 14 refl) (stop !)))
-            (store-raw ! 0 refl (sheet-typed 𝓤 H A W (r .sheet) (sheet-is r v made))) $
+        (store-raw ! 0 refl (sheet-typed 𝓤 H A W (r .sheet) (sheet-is r v made))) $
         -- `step.answer`
         assigns ! (of-opd ! (load ! (from ! (fld ! refl (stop !))) (look-in ! 6 (sub ! 0 refl (whole !))))) (from ! (stop !))
-            (init ! 16 refl (added-typed 𝓤 H A W (r .answer) (added-is r v made))) $
+        (init ! 16 refl (added-typed 𝓤 H A W (r .answer) (added-is r v made))) $
         -- the borrow is closed at the new sheet
         owned ! S.the-row (Is S.the-row) (sheet-makes 𝓤 H A) (r .sheet) _ (sheet-is r v made) $ move ! (1 ∷ 0 ∷ []) $ closes ! tt S.the-row (r .sheet)
-            (sheet-val (r .sheet) ∷ []) b o $
+        (sheet-val (r .sheet) ∷ []) b o $
         returns ! (look ! 15 refl) $ forget ! 5 refl $ forget ! 7 refl $ forget ! 9 refl $ forget ! 11 refl $ forget ! 13 refl $ forget ! 15 refl $
         move ! (15 ∷ 16 ∷ []) $ free1 ! $ move ! (13 ∷ 14 ∷ []) $ free1 ! $ move ! (11 ∷ 12 ∷ []) $ free1 ! $ move ! (9 ∷ 10 ∷ []) $ free1 ! $ move !
-            (7 ∷ 8 ∷ []) $ free1 ! $ move ! (5 ∷ 6 ∷ []) $ free1 ! $ free0 ! $
+        (7 ∷ 8 ∷ []) $ free1 ! $ move ! (5 ∷ 6 ∷ []) $ free1 ! $ free0 ! $
         by ! (exits r e (added-is r v made))))))))))))))))
 
 module _ {M : Type 1} (𝓤 : URA M) (H : Heap 𝓤) (A : Atoms 𝓤) (W : Given 𝓤 H A) (mem : Memory → SProp 𝓤) (run : Routine → Fun 𝓤) where
@@ -175,15 +175,17 @@ module _ {M : Type 1} (𝓤 : URA M) (H : Heap 𝓤) (A : Atoms 𝓤) (W : Given
   add-walks C Λ fm known = walked 𝓤 H A add.ended stayed (add.clauses 𝓤 H A mem run) (WpFn 𝓤 H C Λ code.function) (λ κs. (ptr-vals, (ptr-vals, tt)))
       (λ κs. (mut-tells (named 0) (κs .0) S.the-row, (shr-tells (named 1) (κs .1 .0) R.the-row, tt)))
       (λ κs qs bounds a _ _. via 𝓤 _ (fst∗ 𝓤 _ (emp 𝓤))
-          (walk 𝓤 H A W mem run (κs .0) (κs .1 .0) (qs .0) (qs .1 .0) (a .0 .ptr .0) (a .0 .ptr .1) (a .0 .name) (a .0 .now) (a .1 .0 .ptr .0)
-          (a .1 .0 .ptr .1) (a .1 .0 .name) (a .1 .0 .now) C Λ fm known))
+      (walk 𝓤 H A W mem run (κs .0) (κs .1 .0) (qs .0) (qs .1 .0) (a .0 .ptr .0) (a .0 .ptr .1) (a .0 .name) (a .0 .now) (a .1 .0 .ptr .0)
+      (a .1 .0 .ptr .1) (a .1 .0 .name) (a .1 .0 .now) C Λ fm known))
 
 add-meets : {M : Type 1} (𝓤 : URA M) (H : Heap 𝓤) (A : Atoms 𝓤) → Given 𝓤 H A → (mem : Memory → SProp 𝓤) (run : Routine → Fun 𝓤) (𝓣 : Tables 𝓤 H) →
     Triple 𝓤 (𝓣 .C #step-by-number) (StepByNumber 𝓤 H A mem run)
     → Meets 𝓤 H A add.signature (WpFn 𝓤 H (𝓣 .C) (𝓣 .Λ) code.function) (add.spec 𝓤 H A mem run)
 add-meets 𝓤 H A W mem run 𝓣 known =
-    walk-meets 𝓤 H A add.ended stayed W (goes-ref 𝓤 H A W 2 0 tt (plain (λ _. S.the-row)),
-        (goes-none-ref 𝓤 H A W 2 (1 ∷ []) tt (plain (λ _. R.the-row)) yes, tt)) (add.clauses 𝓤 H A mem run)
+    walk-meets 𝓤 H A add.ended stayed W (
+      goes-ref 𝓤 H A W 2 0 tt (plain (λ _. S.the-row)),
+      (goes-none-ref 𝓤 H A W 2 (1 ∷ []) tt (plain (λ _. R.the-row)) yes, tt),
+    ) (add.clauses 𝓤 H A mem run)
     (WpFn 𝓤 H (𝓣 .C) (𝓣 .Λ) code.function) (WpFn-mono 𝓤 H (W .laws) 𝓣 code.function) (add-walks 𝓤 H A W mem run (𝓣 .C) (𝓣 .Λ) (fmOf 𝓤 H (W .laws) 𝓣) known)
 
 pub vr-add-spec : {M : Type 1} → stated.statement M
@@ -193,4 +195,4 @@ vr-add-spec 𝓤 H 𝓜 𝓖 𝓡 =
     (tables 𝓤 H 𝓜 𝓡 code.env .C) (tables 𝓤 H 𝓜 𝓡 code.env .Λ) #vr-add code.function (code.unfolded 𝓤 H 𝓜 𝓡)
     (add-meets 𝓤 H (𝓖 .A) (givenOf 𝓤 H 𝓜 𝓖) (𝓜 .mem) (𝓡 .run) (tablesOf 𝓤 H 𝓜 (tables 𝓤 H 𝓜 𝓡 code.env))
     (cited 𝓤 H (StepByNumber 𝓤 H (𝓖 .A) (𝓜 .mem) (𝓡 .run)) 𝓜 𝓡 code.env #step-by-number step-by-number-def.routine
-        code.calls-vellumrill·answers·step-by-number (step-by-number-thm.met 𝓤 H 𝓜 𝓖 𝓡)))
+    code.calls-vellumrill·answers·step-by-number (step-by-number-thm.met 𝓤 H 𝓜 𝓖 𝓡)))

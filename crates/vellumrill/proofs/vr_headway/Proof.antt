@@ -88,17 +88,17 @@ module _ {M : Type 1} (𝓤 : URA M) (H : Heap 𝓤) (A : Atoms 𝓤) (W : Given
 
   exits : (r : HeadwayAnswer) → Said 𝓤 H A at-mem run k k′ r → HeadwayIs r
       → ent 𝓤 (⋆ 𝓤 H A (‵ (flft κ′ q′) ∷ ‵ (fshr-bor κ′ (λ s. partAt R.the-row s k′ b′ o′)) ∷ ‵ (flft κ q) ∷
-          ‵ (fshr-bor κ (λ s. partAt R.the-row s k b o)) ∷ ‵ (fres γ (R.the-row .coded .code k)) ∷ ‵ (fres γ′ (R.the-row .coded .code k′)) ∷ []))
-          (Post (headway-val r))
+      ‵ (fshr-bor κ (λ s. partAt R.the-row s k b o)) ∷ ‵ (fres γ (R.the-row .coded .code k)) ∷ ‵ (fres γ′ (R.the-row .coded .code k′)) ∷ []))
+      (Post (headway-val r))
   exits r e is =
       qed W (‵ (flft κ′ q′) ∷ ‵ (fshr-bor κ′ (λ s. partAt R.the-row s k′ b′ o′)) ∷ ‵ (flft κ q) ∷ ‵ (fshr-bor κ (λ s. partAt R.the-row s k b o)) ∷
-          ‵ (fres γ (R.the-row .coded .code k)) ∷ ‵ (fres γ′ (R.the-row .coded .code k′)) ∷ []) ∵
+      ‵ (fres γ (R.the-row .coded .code k)) ∷ ‵ (fres γ′ (R.the-row .coded .code k′)) ∷ []) ∵
       suffices ! _ (ends-at 𝓤 H A headways.ended stayed (headways.clauses 𝓤 H A at-mem run) W (((κ, (κ′, tt)), (q, (q′, tt)), tt, x, at), tt)
-          (headway-val r) r (tt, (tt, tt)) (tt, (tt, tt))) $ says ! e $
+      (headway-val r) r (tt, (tt, tt)) (tt, (tt, tt))) $ says ! e $
       nothing ! $ move ! (1 ∷ 0 ∷ []) $ join ! $ move ! (2 ∷ 0 ∷ []) $ join ! $ frame ! $
       feqI ! (List Val) (vptr b o ∷ []) (vptr b o ∷ []) refl $ move ! (0 ∷ 3 ∷ 2 ∷ []) $ fjoin3 ! $
       feqI ! (List Val) (vptr b′ o′ ∷ []) (vptr b′ o′ ∷ []) refl $ move ! (0 ∷ 3 ∷ 2 ∷ []) $ fjoin3 ! $ nothing ! $ move ! (1 ∷ 0 ∷ []) $ fjoin ! $ move !
-          (1 ∷ 0 ∷ []) $ fjoin ! $
+      (1 ∷ 0 ∷ []) $ fjoin ! $
       owned ! N.the-row (Is N.the-row) (headway-makes 𝓤 H A) r _ is $ move ! (1 ∷ 0 ∷ []) $ done !
 
   -- the call: what `headway_by_number` is passed, and what it asks, which is had for nothing
@@ -115,43 +115,43 @@ module _ {M : Type 1} (𝓤 : URA M) (H : Heap 𝓤) (A : Atoms 𝓤) (W : Given
     walk =
         qed W ((‵ (flft κ q) ⊛ (‵ (flft κ′ q′) ⊛ ‵ ftrue)) ∷ ‵ (owns (ShrRef (named 0) κ R.the-row ∷ ShrRef (named 1) κ′ R.the-row ∷ []) x at) ∷ []) ∵
         move ! (1 ∷ []) $ fsplit ! $ fsplit3 ! $ drop ! $ move ! (2 ∷ []) $ fsplit ! $ fsplit3 ! $ drop ! $ move ! (5 ∷ []) $ split ! $ move !
-            (1 ∷ []) $ split ! $ keep ! (7 ∷ 2 ∷ 4 ∷ 0 ∷ 6 ∷ 3 ∷ []) $
+        (1 ∷ []) $ split ! $ keep ! (7 ∷ 2 ∷ 4 ∷ 0 ∷ 6 ∷ 3 ∷ []) $
         -- [the first record's fractured borrow and its token; the second's; what observes the first, and the second]
         enter ! C Λ code.function (vptr b o ∷ vptr b′ o′ ∷ []) _ $
         alloc1 ! (λ l₀. alloc1 ! (λ l₁. alloc1 ! (λ l₂. alloc1 !
-            (λ l₃. alloc1 ! (λ l₄. alloc0 ! $ params1 ! $ pass1 ! (init ! 6 refl (tt, tt)) $ pass1 ! (init ! 4 refl (tt, tt)) $ pass0 ! $
+        (λ l₃. alloc1 ! (λ l₄. alloc0 ! $ params1 ! $ pass1 ! (init ! 6 refl (tt, tt)) $ pass1 ! (init ! 4 refl (tt, tt)) $ pass0 ! $
         -- `let earlier = *first`
         move ! (10 ∷ 11 ∷ []) $ looks ! tt R.the-row (Is R.the-row) (shows 𝓤 H A R.the-row) (LL.vals R.the-type R′.the-laws)
-            (LL.tells R.the-type R′.the-laws) (LL.copy R.the-type R′.the-copy 𝓤 H A W) k b o (λ u us.
+        (LL.tells R.the-type R′.the-laws) (LL.copy R.the-type R′.the-copy 𝓤 H A W) k b o (λ u us.
         spelt ! R.the-row (Is R.the-row) (shows 𝓤 H A R.the-row) (LL.vals R.the-type R′.the-laws) (LL.tells R.the-type R′.the-laws) u k us b o $ move !
-            (1 ∷ []) $ peeks ! R.the-row (Is R.the-row) (shows 𝓤 H A R.the-row) k (hold-val k ∷ []) (λ is. move ! (1 ∷ 0 ∷ []) $
+        (1 ∷ []) $ peeks ! R.the-row (Is R.the-row) (shows 𝓤 H A R.the-row) k (hold-val k ∷ []) (λ is. move ! (1 ∷ 0 ∷ []) $
         assigns ! (of-opd ! (load ! (from ! (hop ! (look ! 10 refl) (stop !))) (look-raw ! 0 refl))) (from ! (stop !))
-            (init ! 6 refl (hold-typed 𝓤 H A W k is)) $
+        (init ! 6 refl (hold-typed 𝓤 H A W k is)) $
         shuts ! tt R.the-row u k (hold-val k ∷ []) b o $
         -- `let later = *second`
         move ! (12 ∷ 13 ∷ []) $ looks ! tt R.the-row (Is R.the-row) (shows 𝓤 H A R.the-row) (LL.vals R.the-type R′.the-laws)
-            (LL.tells R.the-type R′.the-laws) (LL.copy R.the-type R′.the-copy 𝓤 H A W) k′ b′ o′ (λ u′ us′.
+        (LL.tells R.the-type R′.the-laws) (LL.copy R.the-type R′.the-copy 𝓤 H A W) k′ b′ o′ (λ u′ us′.
         spelt ! R.the-row (Is R.the-row) (shows 𝓤 H A R.the-row) (LL.vals R.the-type R′.the-laws)
-            (LL.tells R.the-type R′.the-laws) u′ k′ us′ b′ o′ $ move ! (1 ∷ []) $ peeks ! R.the-row (Is R.the-row) (shows 𝓤 H A R.the-row) k′
-            (hold-val k′ ∷ []) (λ is′. move ! (1 ∷ 0 ∷ []) $
+        (LL.tells R.the-type R′.the-laws) u′ k′ us′ b′ o′ $ move ! (1 ∷ []) $ peeks ! R.the-row (Is R.the-row) (shows 𝓤 H A R.the-row) k′
+        (hold-val k′ ∷ []) (λ is′. move ! (1 ∷ 0 ∷ []) $
         assigns ! (of-opd ! (load ! (from ! (hop ! (look ! 10 refl) (stop !))) (look-raw ! 0 refl))) (from ! (stop !))
-            (init ! 6 refl (hold-typed 𝓤 H A W k′ is′)) $
+        (init ! 6 refl (hold-typed 𝓤 H A W k′ is′)) $
         shuts ! tt R.the-row u′ k′ (hold-val k′ ∷ []) b′ o′ $
         -- [the second's token and fractured borrow; the first's; _4; …; _3; …; _2; …; _1; …; _0; …; what observes the first, and the second]
         -- `headway_by_number(earlier, later)`
         use0 W (raw (ByNumber 𝓤 H A at-mem run .pre to-by-number)) (goes is is′) $
         calls-at ! fm (ByNumber 𝓤 H A at-mem run) known to-by-number
-            (and-then ! (load ! (from ! (stop !)) (look ! 7 refl)) (and-then ! (load ! (from ! (stop !)) (look ! 5 refl)) (no-more !))) (λ v.
+        (and-then ! (load ! (from ! (stop !)) (look ! 7 refl)) (and-then ! (load ! (from ! (stop !)) (look ! 5 refl)) (no-more !))) (λ v.
         use1 W (later (some (λ (r : HeadwayAnswer). (‵ ftrue ⊛ ‵ (N.the-row .own r (v ∷ []))) ⊛ raw
-            (ensured 𝓤 H A by-number.ended (by-number.clauses 𝓤 H A at-mem run) tt (k, (k′, tt)) tt r)))) (id⊢ 𝓤 _) $ await ! tt $ pick ! (λ r.
+        (ensured 𝓤 H A by-number.ended (by-number.clauses 𝓤 H A at-mem run) tt (k, (k′, tt)) tt r)))) (id⊢ 𝓤 _) $ await ! tt $ pick ! (λ r.
         split ! $ move ! (1 ∷ []) $ use1 W (raw (fact 𝓤 (Said 𝓤 H A at-mem run k k′ r))) (said 𝓤 H A at-mem run k k′ r) $ heard !
-            (Said 𝓤 H A at-mem run k k′ r) (λ e. split ! $ drop ! $
+        (Said 𝓤 H A at-mem run k k′ r) (λ e. split ! $ drop ! $
         facts ! N.the-row (Is N.the-row) (shows 𝓤 H A N.the-row) r (v ∷ []) (λ made.
         land ! (from ! (stop !)) (init ! 12 refl (headway-typed 𝓤 H A W r v made)) $
         rewrite ! 12 (λ (w : Val). ‵ (fat fullShare N′.mir l₀ 0 w)) (ap only (LL.tells N.the-type N′.the-laws r _ made)) refl $
         returns ! (look ! 12 refl) $ forget ! 4 refl $ forget ! 6 refl $ forget ! 8 refl $ forget ! 10 refl $ forget ! 12 refl $
         move ! (12 ∷ 13 ∷ []) $ free1 ! $ move ! (10 ∷ 11 ∷ []) $ free1 ! $ move ! (8 ∷ 9 ∷ []) $ free1 ! $ move ! (6 ∷ 7 ∷ []) $ free1 ! $ move !
-            (4 ∷ 5 ∷ []) $ free1 ! $ free0 ! $
+        (4 ∷ 5 ∷ []) $ free1 ! $ free0 ! $
         by ! (exits r e (headway-is r v made)))))))))))))))
 
 module _ {M : Type 1} (𝓤 : URA M) (H : Heap 𝓤) (A : Atoms 𝓤) (W : Given 𝓤 H A) (mem : Memory → SProp 𝓤) (run : Routine → Fun 𝓤) where
@@ -160,15 +160,17 @@ module _ {M : Type 1} (𝓤 : URA M) (H : Heap 𝓤) (A : Atoms 𝓤) (W : Given
   headway-walks C Λ fm known = walked 𝓤 H A headways.ended stayed (headways.clauses 𝓤 H A mem run) (WpFn 𝓤 H C Λ code.function)
       (λ κs. (ptr-vals, (ptr-vals, tt))) (λ κs. (shr-tells (named 0) (κs .0) R.the-row, (shr-tells (named 1) (κs .1 .0) R.the-row, tt)))
       (λ κs qs bounds a _ _. via 𝓤 _ (fst∗ 𝓤 _ (emp 𝓤))
-          (walk 𝓤 H A W mem run (κs .0) (κs .1 .0) (qs .0) (qs .1 .0) (a .0 .ptr .0) (a .0 .ptr .1) (a .0 .name) (a .0 .now) (a .1 .0 .ptr .0)
-          (a .1 .0 .ptr .1) (a .1 .0 .name) (a .1 .0 .now) C Λ fm known))
+      (walk 𝓤 H A W mem run (κs .0) (κs .1 .0) (qs .0) (qs .1 .0) (a .0 .ptr .0) (a .0 .ptr .1) (a .0 .name) (a .0 .now) (a .1 .0 .ptr .0)
+      (a .1 .0 .ptr .1) (a .1 .0 .name) (a .1 .0 .now) C Λ fm known))
 
 headway-meets : {M : Type 1} (𝓤 : URA M) (H : Heap 𝓤) (A : Atoms 𝓤) → Given 𝓤 H A → (mem : Memory → SProp 𝓤) (run : Routine → Fun 𝓤) (𝓣 : Tables 𝓤 H) →
     Triple 𝓤 (𝓣 .C #by-number) (ByNumber 𝓤 H A mem run)
     → Meets 𝓤 H A headways.signature (WpFn 𝓤 H (𝓣 .C) (𝓣 .Λ) code.function) (headways.spec 𝓤 H A mem run)
 headway-meets 𝓤 H A W mem run 𝓣 known =
-    walk-meets 𝓤 H A headways.ended stayed W (goes-none-ref 𝓤 H A W 2 (0 ∷ []) tt (plain (λ _. R.the-row)) yes,
-        (goes-none-ref 𝓤 H A W 2 (1 ∷ []) tt (plain (λ _. R.the-row)) yes, tt)) (headways.clauses 𝓤 H A mem run)
+    walk-meets 𝓤 H A headways.ended stayed W (
+      goes-none-ref 𝓤 H A W 2 (0 ∷ []) tt (plain (λ _. R.the-row)) yes,
+      (goes-none-ref 𝓤 H A W 2 (1 ∷ []) tt (plain (λ _. R.the-row)) yes, tt),
+    ) (headways.clauses 𝓤 H A mem run)
     (WpFn 𝓤 H (𝓣 .C) (𝓣 .Λ) code.function) (WpFn-mono 𝓤 H (W .laws) 𝓣 code.function) (headway-walks 𝓤 H A W mem run (𝓣 .C) (𝓣 .Λ) (fmOf 𝓤 H (W .laws) 𝓣) known)
 
 pub vr-headway-spec : {M : Type 1} → stated.statement M
@@ -178,4 +180,4 @@ vr-headway-spec 𝓤 H 𝓜 𝓖 𝓡 =
     (tables 𝓤 H 𝓜 𝓡 code.env .C) (tables 𝓤 H 𝓜 𝓡 code.env .Λ) #vr-headway code.function (code.unfolded 𝓤 H 𝓜 𝓡)
     (headway-meets 𝓤 H (𝓖 .A) (givenOf 𝓤 H 𝓜 𝓖) (𝓜 .mem) (𝓡 .run) (tablesOf 𝓤 H 𝓜 (tables 𝓤 H 𝓜 𝓡 code.env))
     (cited 𝓤 H (ByNumber 𝓤 H (𝓖 .A) (𝓜 .mem) (𝓡 .run)) 𝓜 𝓡 code.env #by-number by-number-def.routine code.calls-vellumrill·answers·headway-by-number
-        (by-number-thm.met 𝓤 H 𝓜 𝓖 𝓡)))
+    (by-number-thm.met 𝓤 H 𝓜 𝓖 𝓡)))

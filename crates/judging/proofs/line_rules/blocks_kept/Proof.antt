@@ -44,8 +44,8 @@ returns c =
     (and-of (c .both3 .ensures) (c .before .before .before .is-zero .ensures)
     (and-of (c .before .both2 .ensures) (c .before .before .below-by2 .ensures)
     (and-of (c .before .before .before .before .both .ensures) (c .before .before .before .before .before .before .below-by .ensures)
-        (rw (c .before .before .before .before .before .before .before .size .ensures .0) at
-        (c .before .before .before .before .before .all-within .ensures)))))
+    (rw (c .before .before .before .before .before .before .before .size .ensures .0) at
+    (c .before .before .before .before .before .all-within .ensures)))))
 
 pub blocks-kept-spec : {M : Type 1} → statement M
 blocks-kept-spec =

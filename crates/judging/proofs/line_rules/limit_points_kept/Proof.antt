@@ -34,7 +34,7 @@ returns c =
     rw (limit-point-numbers (c .before .before .before .before .before .before .before .args .line) (omega arith))
     (and-of (c .both2 .ensures) (c .before .before .before .before .is-zero .ensures)
     (and-of (c .before .both .ensures) (c .before .before .before .rises-by .ensures)
-        (rw (c .before .before .before .before .before .size .ensures .0) at (c .before .before .all-within .ensures))))
+    (rw (c .before .before .before .before .before .size .ensures .0) at (c .before .before .all-within .ensures))))
 
 pub limit-points-kept-spec : {M : Type 1} → statement M
 limit-points-kept-spec =

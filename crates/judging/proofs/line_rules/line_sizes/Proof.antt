@@ -36,8 +36,8 @@ returns c =
     (and-of (c .before .before .both3 .ensures) (c .before .before .before .before .before .is-within3 .ensures)
     (and-of (c .before .before .before .both2 .ensures) (c .before .before .before .before .is-within4 .ensures)
     (and-of (c .before .before .before .before .before .before .both .ensures)
-        (c .before .before .before .before .before .before .before .before .is-within .ensures)
-        (c .before .before .before .before .before .before .before .is-within2 .ensures))))
+    (c .before .before .before .before .before .before .before .before .is-within .ensures)
+    (c .before .before .before .before .before .before .before .is-within2 .ensures))))
 
 pub line-sizes-spec : {M : Type 1} → statement M
 line-sizes-spec =

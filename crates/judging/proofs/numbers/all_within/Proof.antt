@@ -36,8 +36,11 @@ loop-less : tie.Need-loop-less Inv-loop μ-loop
 loop-less c = search needs
 
 loop-again : tie.Need-loop-again Inv-loop μ-loop
-loop-again c = (search needs, every-more _ _ (c .before .before .before .before .loop .inv .1)
-    (rw (c .before .before .size .ensures .0) at (sym (c .before .is-within .ensures) ∙ c .if1 .taken)))
+loop-again c = (
+  search needs,
+  every-more _ _ (c .before .before .before .before .loop .inv .1)
+      (rw (c .before .before .size .ensures .0) at (sym (c .before .is-within .ensures) ∙ c .if1 .taken)),
+)
 
 returns : tie.Need-returns Inv-loop μ-loop
 returns c = sym (every-broken _ _ (c .before .before .before .before .loop .i) (omega arith)

@@ -52,8 +52,11 @@ loop-less : tie.Need-loop-less Inv-loop μ-loop
 loop-less c = search needs
 
 loop-again : tie.Need-loop-again Inv-loop μ-loop
-loop-again c = (search needs, every-more _ _ (c .before .before .before .before .loop .inv .1)
-    (gap-kept _ (c .before .size2 .ensures .0) (c .before .before .size .ensures .0) (c .if1 .left)))
+loop-again c = (
+  search needs,
+  every-more _ _ (c .before .before .before .before .loop .inv .1)
+      (gap-kept _ (c .before .size2 .ensures .0) (c .before .before .size .ensures .0) (c .if1 .left)),
+)
 
 returns-2 : tie.Need-returns-2 Inv-loop μ-loop
 returns-2 c = sym (every-done _ (omega arith) (omega arith) (c .before .loop .inv .1))

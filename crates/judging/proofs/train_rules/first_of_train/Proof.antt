@@ -29,7 +29,7 @@ returns c =
     kept-of 7 _ _ (c .unless-kept3 .ensures) (c .before .before .before .bands-kept .ensures)
     (kept-of 8 _ _ (c .before .unless-kept2 .ensures) (c .before .before .stops-kept .ensures)
     (kept-of 9 _ _ (c .before .before .before .before .unless-kept .ensures) (c .before .before .before .before .before .last-block-kept .ensures)
-        (sym refusal-none)))
+    (sym refusal-none)))
 
 pub first-of-train-spec : {M : Type 1} → statement M
 first-of-train-spec =

@@ -30,9 +30,9 @@ returns : tie.Need-returns
 returns c =
     and-of (c .both2 .ensures) (c .before .rises-by .ensures)
     (and-of (c .before .before .both .ensures) (rw (c .before .before .before .before .before .size .ensures .0) at
-        (c .before .before .before .before .all-within .ensures)) (c .before .before .before .all-within2 .ensures))
+    (c .before .before .before .before .all-within .ensures)) (c .before .before .before .all-within2 .ensures))
     ∙ sym (stop-numbers (c .before .before .before .before .before .before .before .before .args .line)
-        (c .before .before .before .before .before .before .before .before .args .train))
+    (c .before .before .before .before .before .before .before .before .args .train))
 
 pub stops-kept-spec : {M : Type 1} → statement M
 stops-kept-spec =

@@ -29,7 +29,7 @@ returns c =
     and-of (c .both3 .ensures) (c .before .before .before .is-within3 .ensures)
     (and-of (c .before .both2 .ensures) (c .before .before .is-within4 .ensures)
     (and-of (c .before .before .before .before .both .ensures) (c .before .before .before .before .before .before .is-within .ensures)
-        (c .before .before .before .before .before .is-within2 .ensures)))
+    (c .before .before .before .before .before .is-within2 .ensures)))
 
 pub train-sizes-spec : {M : Type 1} → statement M
 train-sizes-spec =

@@ -14,7 +14,7 @@ use Rattle.run.proofs.bands.bands_of.Tie as tie
 abbrev Inv-loop : tie.InvT-loop
 Inv-loop train step count gains₀ mosts₀ k₀ gains squares k =
     (k ≤ count) × (count ≤ 8) × Filled (λ j. change (entry (train .rates) j) step) 0 k gains₀ gains ×
-        Filled (λ j. squared (entry (train .tops) j)) 0 k mosts₀ squares
+    Filled (λ j. squared (entry (train .tops) j)) 0 k mosts₀ squares
 
 abbrev μ-loop : tie.MeasureT-loop
 μ-loop train step count gains₀ mosts₀ k₀ gains squares k = count - k

@@ -8,7 +8,7 @@ returns : tie.Need-returns
 returns c =
     let a = c .before .before .before in
     cap-reached (a .args .count) (a .args .gains .now) (a .args .squares .now) (a .args .w .0) (a .args .cap .0) (a .pre .1 .0)
-        (omega (arith, c .if1 .taken)) (a .pre .1 .1)
+    (omega (arith, c .if1 .taken)) (a .pre .1 .1)
 
 traction-step-requires : tie.Need-traction-step-requires
 traction-step-requires c κs = search needs

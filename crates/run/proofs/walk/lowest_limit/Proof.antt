@@ -45,8 +45,11 @@ loop-less : tie.Need-loop-less Inv-loop μ-loop
 loop-less c = search needs
 
 loop-again : tie.Need-loop-again Inv-loop μ-loop
-loop-again c = (omega arith, lowest-down _ _ _ _ _ (omega arith) (omega arith) (c .before .before .before .before .loop .inv .1)
-    (c .before .wide .ensures .0) (c .lower .ensures))
+loop-again c = (
+  omega arith,
+  lowest-down _ _ _ _ _ (omega arith) (omega arith) (c .before .before .before .before .loop .inv .1)
+      (c .before .wide .ensures .0) (c .lower .ensures),
+)
 
 returns : tie.Need-returns Inv-loop μ-loop
 returns c = lowest-all _ _ _ _ (omega arith) (c .before .loop .inv .1)

@@ -1,13 +1,22 @@
 -- `sheet_after`: at the loop's test the first b blocks have their new free times. Assumes nothing.
-use Prim.Native.Nat.{_≤_, _-_, _+_}
+use Prim.Native.Nat.{ℕ, _≤_, _-_, _+_}
+use mathlib.Core.List.{List}
 use mathlib.Core.Path.{_≡_, refl}
 use native.Mathlib.Omega.{arith}
 use borrow.Author.Needs.{needs}
-use Rattle.rules.specs.Sheet.{released, sheetAfter}
+use Rattle.rules.specs.Hold.{Hold}
+use Rattle.rules.specs.Sheet.{Sheet, released, sheetAfter}
 use Rattle.holds.specs.Values.{asHold}
-use Rattle.sheet.proofs.Loops.{at-end, released-none, released-next}
+use Rattle.sheet.proofs.Loops.{released-none, released-next, released-done}
 use Rattle.sheet.proofs.after.sheet_after.Statement.{statement}
 use Rattle.sheet.proofs.after.sheet_after.Tie as tie
+
+-- a sheet after the addition, from its parts
+after-of :
+    (s : Sheet) (h : Hold) (start : ℕ) {blocks trains : ℕ} {free : List ℕ} → blocks ≡ s .blocks → trains ≡ s .trains + 1 →
+    free ≡ released (s .blocks) h start (s .free) → _≡_ {A = Sheet} (record { blocks = blocks; trains = trains; free = free }) (sheetAfter s h start)
+unfolding sheetAfter
+after-of s h start e f g = rw (e, f, g)
 
 abbrev Inv-loop : tie.InvT-loop
 Inv-loop start hold blocks trains next₀ b₀ next b =
@@ -30,8 +39,9 @@ element-copy-out-free-again c = search needs
 
 free-again-requires : tie.Need-free-again-requires Inv-loop μ-loop
 free-again-requires c κs =
-    let pre = c .before .before .before .pre in
-    (omega (arith, pre .0 .trains-most, pre .1 .1), pre .1 .0 .end-most (c .before .before .loop .b) (search needs))
+    let turn = c .before in
+    let pre = turn .before .before .pre in
+    (omega (arith, pre .0 .trains-most, pre .1 .1), pre .1 .0 .end-most (turn .before .loop .b) (omega arith))
 
 mul-next : tie.Need-mul-next Inv-loop μ-loop
 mul-next c = search needs
@@ -51,13 +61,9 @@ loop-again c =
     (search needs, inv .1, inv .2, released-next _ _ _ _ (inv .3) (c .free-again .ensures))
 
 returns : tie.Need-returns Inv-loop μ-loop
-unfolding sheetAfter
 returns c =
-    let a = c .before .before .args in
     let inv = c .before .loop .inv in
-    let e : c .before .loop .b ≡ a .sheet .blocks = omega arith in
-    let free = at-end (λ k. c .before .loop .next .free ≡ released k (asHold (a .t2)) (a .start) (a .sheet .free)) e (inv .3) in
-    λ i. record { blocks = inv .1 i; trains = inv .2 i; free = free i }
+    after-of _ _ _ (inv .1) (inv .2) (released-done _ _ _ (inv .0) (omega arith) (inv .3))
 
 pub sheet-after-spec : {M : Type 1} → statement M
 sheet-after-spec =

@@ -1,29 +1,47 @@
 -- `block_named`: at the loop's test none of the first b blocks binds. Assumes nothing.
 use Prim.Native.Nat.{ℕ, _≤_, _-_, _+_}
 use mathlib.Core.Bool.{Bool}
-use mathlib.Core.Path.{_≡_, sym, ap, _∙_}
+use mathlib.Core.Path.{_≡_, sym, _∙_}
 use native.Mathlib.Numerals.{add-one}
 use native.Mathlib.Omega.{arith}
 use lib.Dec.{eqb}
 use borrow.Author.Count.{below-more}
 use borrow.Author.Needs.{needs}
 use borrow.Author.Tests.{eq-eqb, ne-eqb}
-use Rattle.rules.specs.Count.{entry, countedFrom1}
-use Rattle.rules.specs.Sheet.{blockNamed}
-use Rattle.rules.proofs.Count.{NonePasses, first-none, first-found}
-use Rattle.sheet.proofs.Loops.{at-end}
+use Rattle.rules.specs.Hold.{Hold}
+use Rattle.rules.specs.Sheet.{Sheet, begin, freeTime, blockNamed}
+use Rattle.rules.proofs.Count.{NonePasses, FirstPasses, first-none, first-found}
+use Rattle.holds.specs.Values.{asHold}
+use Rattle.sheet.specs.Values.{asSheet}
+use Rattle.sheet.proofs.Loops.{none-done}
 use Rattle.sheet.proofs.block.block_named.Statement.{statement}
 use Rattle.sheet.proofs.block.block_named.Tie as tie
 
+-- the block named, by what the code found
+module _ (s : Sheet) (h : Hold) (start : ℕ) where
+  abbrev binding : ℕ → Bool
+  binding b = eqb (start + begin h b) (freeTime s b)
+
+  at-zero : start ≡ 0 → 0 ≡ blockNamed s h start
+  unfolding blockNamed
+  at-zero z = rw (eq-eqb start 0 z)
+
+  first-named : (start ≡ 0 → ⊥) → (b : ℕ) → FirstPasses (s .blocks) binding b → b + 1 ≡ blockNamed s h start
+  unfolding blockNamed
+  first-named not0 b f = rw (ne-eqb start 0 not0, first-found (s .blocks) binding b f, add-one)
+
+  none-named : (start ≡ 0 → ⊥) → NonePasses (s .blocks) binding → 0 ≡ blockNamed s h start
+  unfolding blockNamed
+  none-named not0 f = rw (ne-eqb start 0 not0, first-none (s .blocks) binding f)
+
 abbrev Inv-loop : tie.InvT-loop
-Inv-loop start sheet hold blocks b₀ b = (b ≤ blocks) × NonePasses b (λ k. eqb (start + entry (hold .begins) k) (entry (sheet .free) k))
+Inv-loop start sheet hold blocks b₀ b = (b ≤ blocks) × NonePasses b (binding (asSheet sheet) (asHold hold) start)
 
 abbrev μ-loop : tie.MeasureT-loop
 μ-loop start sheet hold blocks b₀ b = blocks - b
 
 returns : tie.Need-returns Inv-loop μ-loop
-unfolding blockNamed
-returns c = rw (eq-eqb (c .before .args .start) 0 (omega arith))
+returns c = at-zero _ _ _ (c .if1 .taken)
 
 loop-holds : tie.Need-loop-holds Inv-loop μ-loop
 loop-holds c = (search needs, λ k l. absurd (omega arith))
@@ -47,16 +65,11 @@ add-result : tie.Need-add-result Inv-loop μ-loop
 add-result c = search needs
 
 returns-2 : tie.Need-returns-2 Inv-loop μ-loop
-unfolding blockNamed
 returns-2 c =
-    let a = c .before .before .before .before .before .before .before .args in
-    rw (ne-eqb (a .start) 0 (λ z. omega arith), add-one)
-    (ap countedFrom1 (sym (first-found _ _ _
-    (record {
-      there = search needs;
-      passes = sym (c .before .binds .ensures) ∙ c .if2 .taken;
-      none-before = c .before .before .before .before .before .loop .inv .1;
-    }))))
+    let turn = c .before .before .before .before in
+    let s = turn .before in
+    first-named _ _ _ (s .before .if1 .left) (s .loop .b)
+    (record { there = turn .loop-test .taken; passes = sym (c .before .binds .ensures) ∙ c .if2 .taken; none-before = s .loop .inv .1 })
 
 add-b : tie.Need-add-b Inv-loop μ-loop
 add-b c = search needs
@@ -65,15 +78,14 @@ loop-less : tie.Need-loop-less Inv-loop μ-loop
 loop-less c = search needs
 
 loop-again : tie.Need-loop-again Inv-loop μ-loop
-loop-again c = (search needs, below-more _ _ (c .before .before .before .before .before .loop .inv .1) (sym (c .before .binds .ensures) ∙ c .if2 .left))
+loop-again c =
+    let s = c .before .before .before .before .before in
+    (search needs, below-more _ _ (s .loop .inv .1) (sym (c .before .binds .ensures) ∙ c .if2 .left))
 
 returns-3 : tie.Need-returns-3 Inv-loop μ-loop
-unfolding blockNamed
 returns-3 c =
-    let a = c .before .before .before .args in
-    let test : ℕ → Bool = λ k. eqb (a .start + entry (a .t2 .begins) k) (entry (a .t1 .free) k) in
-    let e : c .before .loop .b ≡ a .t1 .blocks = omega arith in
-    rw (ne-eqb (a .start) 0 (λ z. omega arith)) (ap countedFrom1 (sym (first-none _ _ (at-end (λ k. NonePasses k test) e (c .before .loop .inv .1)))))
+    let s = c .before in
+    none-named _ _ _ (s .before .if1 .left) (none-done _ (s .loop .inv .0) (omega arith) (s .loop .inv .1))
 
 pub block-named-spec : {M : Type 1} → statement M
 block-named-spec =

@@ -11,11 +11,15 @@ returns c = rw (lt-leb 1 (c .before .args .blocks) (omega arith))
 
 returns-2 : tie.Need-returns-2
 unfolding within _and_
-returns-2 c = rw (le-leb 1 (c .before .before .args .blocks) (omega arith), lt-leb (c .before .before .args .blocks) 32 (omega arith))
+returns-2 c =
+    let blocks = c .before .before .args .blocks in
+    rw (le-leb 1 blocks (omega arith), lt-leb blocks 32 (omega arith))
 
 returns-3 : tie.Need-returns-3
 unfolding within _and_
-returns-3 c = rw (le-leb 1 (c .before .before .args .blocks) (omega arith), le-leb (c .before .before .args .blocks) 32 (omega arith))
+returns-3 c =
+    let blocks = c .before .before .args .blocks in
+    rw (le-leb 1 blocks (omega arith), le-leb blocks 32 (omega arith))
 
 pub count-kept-spec : {M : Type 1} → statement M
 count-kept-spec = tie.close (tie.spec returns returns-2 returns-3)

@@ -33,14 +33,17 @@ all-ordered-requires : tie.Need-all-ordered-requires
 all-ordered-requires c κs = search needs
 
 returns-2 : tie.Need-returns-2
-returns-2 c = unordered _ _ (c .before .before .if1 .left) (failed (c .before .all-ordered .ensures) (c .if2 .taken))
+returns-2 c =
+    let s = c .before in
+    unordered _ _ (s .before .if1 .left) (failed (s .all-ordered .ensures) (c .if2 .taken))
 
 all-at-most-requires : tie.Need-all-at-most-requires
 all-at-most-requires c κs = search needs
 
 returns-3 : tie.Need-returns-3
 returns-3 c =
-    by-ends _ _ (c .before .before .before .if1 .left) (passed (c .before .before .all-ordered .ensures) (c .before .if2 .left)) (c .all-at-most .ensures)
+    let s = c .before .before in
+    by-ends _ _ (s .before .if1 .left) (passed (s .all-ordered .ensures) (c .before .if2 .left)) (c .all-at-most .ensures)
 
 pub hold-kept-spec : {M : Type 1} → statement M
 hold-kept-spec =

@@ -6,7 +6,7 @@ use borrow.Author.Needs.{needs}
 use Rattle.rules.specs.Count.{entry, greatestBelow}
 use Rattle.rules.specs.Sheet.{leastStart}
 use Rattle.rules.proofs.Loops.{greatest-none, greatest-more}
-use Rattle.sheet.proofs.Loops.{at-end}
+use Rattle.sheet.proofs.Loops.{greatest-done}
 use Rattle.sheet.proofs.start.least_start.Statement.{statement}
 use Rattle.sheet.proofs.start.least_start.Tie as tie
 
@@ -44,17 +44,15 @@ loop-less : tie.Need-loop-less Inv-loop μ-loop
 loop-less c = search needs
 
 loop-again : tie.Need-loop-again Inv-loop μ-loop
-loop-again c = (
-  search needs,
-  greatest-more _ _ (c .before .before .before .before .before .loop .inv .1) (c .before .wait .ensures) (c .greater .ensures),
-)
+loop-again c =
+    let s = c .before .before .before .before .before in
+    (search needs, greatest-more _ _ (s .loop .inv .1) (c .before .wait .ensures) (c .greater .ensures))
 
 returns : tie.Need-returns Inv-loop μ-loop
 unfolding leastStart
 returns c =
-    let a = c .before .before .args in
-    let e : c .before .loop .b ≡ a .t1 .blocks = omega arith in
-    at-end (λ k. c .before .loop .start ≡ greatestBelow k (λ b. entry (a .t1 .free) b - entry (a .t2 .begins) b)) e (c .before .loop .inv .1)
+    let inv = c .before .loop .inv in
+    greatest-done _ (inv .0) (omega arith) (inv .1)
 
 pub least-start-spec : {M : Type 1} → statement M
 least-start-spec =

@@ -25,7 +25,7 @@ mul-result-2 c =
     let w = c .before .wide64 .ensures .0 in
     let m = practice-most (c .before .before .before .args .train .class .0) in
     let most : c .before .wide64 .result * 2592 * c .wide642 .result ≤ 155520 * 65535 =
-        mul-le-mul {n₂ = 155520} {m₂ = 65535} (omega arith) (omega (arith, c .wide642 .ensures .1)) in
+    mul-le-mul {n₂ = 155520} {m₂ = 65535} (omega arith) (omega (arith, c .wide642 .ensures .1)) in
     omega arith
 
 returns : tie.Need-returns
