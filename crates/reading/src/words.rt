@@ -19,16 +19,16 @@ fn lesser(a: usize, b: usize) -> usize
 
 // The unsigned 16-bit number at a place, low byte first.
 pub(crate) fn word_at(bytes: &[u8], at: usize) -> u16
+    requires { ⌜ at < 2000000 ⌝ }
     ensures { λ r. ⌜ (r ≡ word (now (bytes .entry)) at) × (r < 65536) ⌝ }
 {
-    if bytes.len() <= at {
-        return 0;
+    if at + 1 < bytes.len() {
+        return wide(bytes[at]) + 256 * wide(bytes[at + 1]);
     }
-    let low = wide(bytes[at]);
-    if bytes.len() <= at + 1 {
-        return low;
+    if at < bytes.len() {
+        return wide(bytes[at]);
     }
-    low + 256 * wide(bytes[at + 1])
+    0
 }
 
 // The first n of the numbers that stand from a place on, but no more than 64; the places behind them are 0.
