@@ -3,7 +3,7 @@ use crate::opened::open_file;
 use reading::record_size;
 use values::Line;
 ghost use mathlib.Core.Path.{_≡_};
-ghost use Prim.Native.Nat.{_≤_, _<_};
+ghost use Prim.Native.Nat.{_<_};
 ghost use Rattle.rules.specs.Calls.{fileRefusal};
 ghost use Rattle.rules.specs.File.{trainCount, trainsAt, recordAt};
 ghost use Rattle.line.specs.Answers.{foundFor, refusedFor};

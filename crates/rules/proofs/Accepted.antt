@@ -3,7 +3,7 @@ use Prim.Native.Nat.{ℕ, zero, suc, _≤_, _<_}
 use mathlib.Core.Bool.{Bool, true, false, cond}
 use mathlib.Core.List.{List, [], _∷_, _++_}
 use mathlib.Core.Logic.{_↔_}
-use mathlib.Core.Path.{_≡_, refl, sym, _∙_}
+use mathlib.Core.Path.{_≡_, sym, _∙_}
 use native.Mathlib.Omega.{arith}
 use lib.ListN.{length}
 use borrow.Author.Tests.{le-leb, lt-leb, leb-true, ltb-true, lt-ltb, le-ltb}
@@ -20,7 +20,7 @@ use Rattle.rules.proofs.Count.{below-suc, and-left, and-right, and-both
 use Rattle.rules.proofs.File.{parallel}
 use Rattle.rules.proofs.Rules.{rule-3-line, rule-3-train, rule-4, rule-5, rule-6, rule-7, rule-8, rule-9}
 use Rattle.rules.proofs.Refusal.{refusal-none, refusal-cons, Positive, head-broken, head-kept, head-accepted, append-refused}
-use Rattle.rules.proofs.Refusal.{append-kept, append-accepted, AtMost, refusal-most, Rising, lowest-broken, RisingTests}
+use Rattle.rules.proofs.Refusal.{append-kept, append-accepted, refusal-most, Rising, lowest-broken, RisingTests}
 use Rattle.rules.proofs.Refusal.{Beyond, beyond-decided, decided-both, decided-true, lower-none, lower-zero}
 
 -- ---- the rules of a line, of a train, and of all trains
@@ -28,24 +28,24 @@ use Rattle.rules.proofs.Refusal.{Beyond, beyond-decided, decided-both, 
 pub line-rules : (l : Line) → (refusal (lineRules l) ≡ 0) ↔ (Rule4 l × Rule5 l × Rule6 l)
 line-rules l = (
   λ z.
-      let (k₄, z₄) = head-accepted 4 _ _ (omega arith) z in
-      let (k₅, z₅) = head-accepted 5 _ _ (omega arith) z₄ in
-      let (k₆, z₆) = head-accepted 6 _ _ (omega arith) z₅ in
+      let (k₄, z₄) = head-accepted _ _ _ (omega arith) z in
+      let (k₅, z₅) = head-accepted _ _ _ (omega arith) z₄ in
+      let (k₆, z₆) = head-accepted _ _ _ (omega arith) z₅ in
       (rule-4 l .0 k₄, rule-5 l .0 k₅, rule-6 l .0 k₆),
   λ r.
-      head-kept 4 _ _ (rule-4 l .1 (r .0)) ∙ head-kept 5 _ _ (rule-5 l .1 (r .1)) ∙ head-kept 6 _ _ (rule-6 l .1 (r .2)) ∙ refusal-none,
+      head-kept _ _ _ (rule-4 l .1 (r .0)) ∙ head-kept _ _ _ (rule-5 l .1 (r .1)) ∙ head-kept _ _ _ (rule-6 l .1 (r .2)) ∙ refusal-none,
 )
 
 pub train-rules : (l : Line) (t : Train) → (refusal (oneTrainRules l t) ≡ 0) ↔ (Rule7 t × Rule8 l t × Rule9 l t)
 unfolding decided
 train-rules l t = (
   λ z.
-      let (k₇, z₇) = head-accepted 7 _ _ (omega arith) z in
-      let (k₈, z₈) = head-accepted 8 _ _ (omega arith) z₇ in
-      let (k₉, z₉) = head-accepted 9 _ _ (omega arith) z₈ in
+      let (k₇, z₇) = head-accepted _ _ _ (omega arith) z in
+      let (k₈, z₈) = head-accepted _ _ _ (omega arith) z₇ in
+      let (k₉, z₉) = head-accepted _ _ _ (omega arith) z₈ in
       (rule-7 t .0 k₇, rule-8 l t .0 k₈, rule-9 l t .0 k₉),
   λ r.
-      head-kept 7 _ _ (rule-7 t .1 (r .0)) ∙ head-kept 8 _ _ (rule-8 l t .1 (r .1)) ∙ head-kept 9 _ _ (rule-9 l t .1 (r .2)) ∙ refusal-none,
+      head-kept _ _ _ (rule-7 t .1 (r .0)) ∙ head-kept _ _ _ (rule-8 l t .1 (r .1)) ∙ head-kept _ _ _ (rule-9 l t .1 (r .2)) ∙ refusal-none,
 )
 
 tests-rise : RisingTests 0 trainTests

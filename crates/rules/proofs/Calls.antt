@@ -13,7 +13,7 @@ use Rattle.rules.specs.File.{recordAt, recordEnd, recordSize, recordByte
 use Rattle.rules.specs.Line.{lineOf, trainOf}
 use Rattle.rules.specs.Run.{runRow}
 use Rattle.rules.specs.Time.{runTimes}
-use Rattle.rules.specs.Calls.{written, writeAnswer, bytesAfter, RecordPlace, recordPlace, trainRefusal, trainRecord, runRefusal, speedsAfter, timesAfter}
+use Rattle.rules.specs.Calls.{written, RecordPlace, recordPlace, trainRefusal, trainRecord, runRefusal, speedsAfter, timesAfter}
 use Rattle.rules.specs.Meaning.{IsWritten}
 use Rattle.rules.proofs.File.{record-within}
 use Rattle.rules.proofs.Accepted.{train-accepted, file-there}
@@ -21,26 +21,6 @@ use Rattle.rules.proofs.Accepted.{train-accepted, file-there}
 -- a record's size is the distance from its place to the place past it
 pub record-size : (file : List ℕ) (at : ℕ) → at + recordSize file at ≡ recordEnd file at
 record-size file at = omega arith
-
--- ---- calls that write bytes
-
-module _ (text : List ℕ) where
-  pub answer-written : writeAnswer 0 text ≡ record { number = 0; bytes = length text }
-  unfolding writeAnswer
-  answer-written = refl
-
-  pub bytes-written : (buffer : List ℕ) → bytesAfter 0 text buffer ≡ written buffer 0 text
-  unfolding bytesAfter
-  bytes-written buffer = refl
-
-  module _ {number : ℕ} (h : number ≡ 0 → ⊥) where
-    pub answer-refused : writeAnswer number text ≡ record { number = number; bytes = 0 }
-    unfolding writeAnswer
-    answer-refused = rw (ne-eqb number 0 h)
-
-    pub bytes-kept : (buffer : List ℕ) → bytesAfter number text buffer ≡ buffer
-    unfolding bytesAfter
-    bytes-kept buffer = rw (ne-eqb number 0 h)
 
 -- ---- the record of a train
 

@@ -1,6 +1,6 @@
 -- Laws of the tests, choices and rows over the whole numbers below a count. Assumes nothing.
 use Prim.Native.Nat.{ℕ, zero, suc, _+_, _-_, _*_, _/_, _≤_, _<_, min, max}
-use mathlib.Core.Bool.{Bool, true, false, cond, false≢true}
+use mathlib.Core.Bool.{Bool, true, false, false≢true}
 use mathlib.Core.List.{[]}
 use mathlib.Core.Logic.{_⊎_, inl, inr, ⊎-elim}
 use mathlib.Core.Option.{none, some}
@@ -9,9 +9,9 @@ use native.Mathlib.Decide.{decLe}
 use native.Mathlib.Nat.{le-refl, le-trans, le-suc-iff, le-of-suc-le-suc, eq-or-lt-of-le, le-max-left, le-max-right, max-le, add-zero, zero-add}
 use native.Mathlib.Nat.{lt-div-mul-add, div-lt-iff-lt-mul, suc-mul, mul-le-mul-left}
 use native.Mathlib.Omega.{arith}
-use lib.Dec.{leb, eqb}
+use lib.Dec.{leb}
 use lib.ListN.{length}
-use borrow.Author.Tests.{leb-true, le-leb, ne-eqb}
+use borrow.Author.Tests.{leb-true, le-leb}
 use Rattle.rules.specs.Count.{_and_, entry, rowFrom, row, every, within, allWithin, belowBy, risesBy, greatestBelow, lowestFrom, orZero}
 use Rattle.rules.specs.Count.{ifPasses, orElse, firstBelow, lastBelow, ceilDiv}
 use Rattle.rules.specs.Meaning.{IsRoundedUp}

@@ -9,10 +9,7 @@ use native.Mathlib.Omega.{arith}
 use lib.ListN.{length, take, drop, set, length-append, length-take, length-drop, take-append-drop}
 use lib.Seq.{take-at, drop-append-add, drop-drop, set-split}
 use Rattle.rules.specs.Calls.{written}
-use Rattle.rules.specs.Count.{entry, row}
 use Rattle.rules.specs.Text.{joined}
-use Rattle.rules.proofs.Count.{length-row}
-use Rattle.rules.proofs.Fill.{fill-done}
 
 module _ (buffer : List ℕ) (at : ℕ) where
   pub written-none : buffer ≡ written buffer at []
@@ -50,23 +47,6 @@ written-front s xs = rw zero-add
 module _ (s xs : List ℕ) where
   pub written-long : {s′ : List ℕ} → s′ ≡ written s 0 xs → length xs ≤ length s → length s′ ≡ length s
   written-long e h = rw (e, written-front s xs) (simp (length-append, length-drop) (omega arith))
-
-  drop-written : drop (length xs) (written s 0 xs) ≡ drop (length xs) s
-  drop-written = rw (written-front s xs) (rw add-zero at (drop-append-add xs (drop (length xs) s) 0))
-
-  -- as many values again at the same place
-  pub written-over : (ys : List ℕ) → length ys ≡ length xs → written (written s 0 xs) 0 ys ≡ written s 0 ys
-  written-over ys e =
-      written-front (written s 0 xs) ys ∙ ap (λ (r : List ℕ). ys ++ r) (rw e drop-written) ∙ sym (written-front s ys)
-
-  -- the entries that stood there
-  pub written-back : length xs ≤ length s → written (written s 0 xs) 0 (row (entry s) (length xs)) ≡ s
-  written-back h =
-      let same : s ≡ row (entry s) (length xs) ++ drop (length xs) s =
-      fill-done (record { long = refl; inside = λ k a b. refl; under = λ k a. refl; over = λ k a. refl }) h in
-      written-over (row (entry s) (length xs)) (length-row _ _)
-      ∙ written-front s (row (entry s) (length xs))
-      ∙ rw length-row (sym same)
 
 -- ---- pieces one behind the other
 

@@ -17,20 +17,6 @@ use Rattle.rules.specs.Refusal.{refusal, firstBroken, fileRules, trainRu
 unfoldable pub written : List ℕ → ℕ → List ℕ → List ℕ
 written buffer at values = take at buffer ++ (values ++ drop (at + length values) buffer)
 
--- ---- calls that write bytes: the number 0 and how many are written, or the number of refusal and 0
-
-pub record WriteAnswer : Type 0 where
-  pub number : ℕ
-  pub bytes : ℕ
-
--- the answer of a call that has this number of refusal, or 0, and this text to write
-unfoldable pub writeAnswer : ℕ → List ℕ → WriteAnswer
-writeAnswer number text = cond (eqb number 0) (record { number = 0; bytes = length text }) (record { number = number; bytes = 0 })
-
--- the lent bytes then: they begin with the text; on a refusal every value is kept
-unfoldable pub bytesAfter : ℕ → List ℕ → List ℕ → List ℕ
-bytesAfter number text buffer = cond (eqb number 0) (written buffer 0 text) buffer
-
 -- ---- file calls: 0, or the number of refusal
 
 unfoldable pub fileRefusal : List ℕ → ℕ

@@ -107,10 +107,11 @@ unfoldable pub recordAt : List ℕ → ℕ → ℕ
 recordAt file zero = trainsAt file
 recordAt file (suc k) = recordEnd file (recordAt file k)
 
--- the number of bytes of train record k, and the bytes themselves, from its class to its last dwell (or last rate if S is 0)
+-- the number of bytes of the record
 abbrev pub recordSize : List ℕ → ℕ → ℕ
 recordSize file at = 8 + 4 * bandCount file at + 4 * stopCount file at
 
+-- train record k as a part of the file, from its class to its last dwell, or to its last rate if S is 0
 abbrev pub recordBytes : List ℕ → ℕ → List ℕ
 recordBytes file k = take (recordSize file (recordAt file k)) (drop (recordAt file k) file)
 

@@ -1,7 +1,7 @@
 -- The text of a whole file, and what the sheet program prints. Assumes nothing.
-use Prim.Native.Nat.{ℕ, _+_, _≤_, _<_}
+use Prim.Native.Nat.{ℕ, _≤_, _<_}
 use mathlib.Core.Bool.{Bool, true, false}
-use mathlib.Core.List.{List, [], _∷_, _++_}
+use mathlib.Core.List.{List, []}
 use mathlib.Core.Path.{_≡_, refl, sym, ap, _∙_}
 use native.Mathlib.Decide.{decLt}
 use native.Mathlib.Nat.{zero-add}
@@ -10,21 +10,23 @@ use lib.ListN.{length, take, replicate, length-replicate, getD-replicate, List·
 use lib.Seq.{ext-getD, length-take-le, getD-take}
 use lib.Dec.{eqb}
 use borrow.Author.Tests.{le-leb, eqb-true}
-use Rattle.rules.specs.Calls.{WriteAnswer, writeAnswer, bytesAfter, written, fileRefusal}
+use Rattle.rules.specs.Calls.{written, fileRefusal}
 use Rattle.rules.specs.Count.{entry, row, padded}
 use Rattle.rules.specs.File.{AreBytes, trainCount}
 use Rattle.rules.specs.Meaning.{IsWritten}
 use Rattle.rules.specs.Refusal.{fileRules}
 use Rattle.rules.specs.Text.{refusalText, lineOfTrain, runningTime, sheetText, programText}
 use Rattle.rules.proofs.Accepted.{file-positive, file-most, line-sizes}
-use Rattle.rules.proofs.Calls.{answer-written, bytes-written, written-is}
+use Rattle.rules.proofs.Calls.{written-is}
 use Rattle.rules.proofs.Count.{length-row, entry-row}
 use Rattle.rules.proofs.File.{word-most}
-use Rattle.rules.proofs.Fill.{padded-within, padded-beyond, row-padded}
+use Rattle.rules.proofs.Fill.{padded-within}
 use Rattle.rules.proofs.Refusal.{refusal-none, head-kept, append-refused, append-kept}
-use Rattle.rules.proofs.Room.{text-most, refusal-fits}
+use Rattle.rules.proofs.Room.{text-most}
 use Rattle.rules.proofs.Text.{file-answers, text-accepted, text-refused, program-long, program-whole}
-use Rattle.text.specs.Text.{lineAt, rowsText, equalCounts, roomRefusal, sheetRefusal}
+use Rattle.text.specs.declared.WriteAnswer.{WriteAnswer}
+use Rattle.text.specs.Text.{writeAnswer, bytesAfter, lineAt, rowsText, equalCounts, roomRefusal, sheetRefusal}
+use Rattle.text.proofs.Room.{answer-written, bytes-written}
 use Rattle.text.proofs.Rows.{counts-equal, rows-joined, counts-kept}
 use Rattle.study.specs.declared.rows.Rows.{Rows}
 use Rattle.study.specs.Rows.{startAt, blockAt, fileRows}

@@ -24,7 +24,7 @@ use Rattle.values.specs.Values.{asLine}
 use Rattle.reading.specs.Decoded.{decodedLine}
 use Rattle.line.proofs.Opening.{line-stands}
 use Rattle.study.specs.declared.rows.Rows.{Rows}
-use Rattle.study.specs.Rows.{Decodes, lastArrival, startAt, blockAt, column, fileRows}
+use Rattle.study.specs.Rows.{Decodes, lastArrival, startAt, blockAt, fileRows}
 
 abbrev zeros : List ℕ
 zeros = replicate 64 0

@@ -9,10 +9,9 @@ use text::put_sheet;
 ghost use mathlib.Core.Path.{_≡_};
 ghost use Prim.Native.Nat.{_≤_};
 ghost use lib.ListN.{length, take};
-ghost use Rattle.rules.specs.Calls.{writeAnswer, bytesAfter};
 ghost use Rattle.rules.specs.Count.{padded};
 ghost use Rattle.rules.specs.Text.{refusalText, sheetText, programText};
-ghost use Rattle.text.specs.Text.{asWriteAnswer, rowsText, sheetRefusal};
+ghost use Rattle.text.specs.Text.{writeAnswer, bytesAfter, rowsText, sheetRefusal};
 ghost use Rattle.study.specs.Study.{studyRefusal, NoneRefused};
 
 const MOST_INPUT: usize = 16384;
@@ -26,7 +25,7 @@ pub struct ProgramText {
 fn put_rows(rows: Rows, trains: usize, text: &mut [u8]) -> WriteAnswer
     requires { ⌜ (trains ≤ length (rows .starts)) × (trains ≤ length (rows .runs)) × (trains ≤ length (rows .blocks)) ⌝ }
     ensures { λ r. ⌜
-        asWriteAnswer r
+        r
         ≡ writeAnswer (sheetRefusal (take trains (rows .starts)) (take trains (rows .runs)) (take trains (rows .blocks)) (length (now (text .entry))))
         (rowsText (take trains (rows .starts)) (take trains (rows .runs)) (take trains (rows .blocks))) ⌝ }
     ensures { λ _. ⌜
@@ -43,7 +42,7 @@ fn put_rows(rows: Rows, trains: usize, text: &mut [u8]) -> WriteAnswer
 // The sheet of a whole file as text: rules 1 to 9, then 11 where the text does not fit. A refusal leaves the lent bytes as they came.
 pub fn study(file: &[u8], text: &mut [u8]) -> WriteAnswer
     ensures answer { λ r. ⌜
-        asWriteAnswer r ≡ writeAnswer (studyRefusal (now (file .entry)) (length (now (text .entry)))) (sheetText (now (file .entry))) ⌝ }
+        r ≡ writeAnswer (studyRefusal (now (file .entry)) (length (now (text .entry)))) (sheetText (now (file .entry))) ⌝ }
     ensures text { λ r. ⌜
         now (text .exit)
         ≡ bytesAfter (studyRefusal (now (file .entry)) (length (now (text .entry)))) (sheetText (now (file .entry))) (now (text .entry)) ⌝ }

@@ -1,18 +1,35 @@
 -- What a call answers and leaves, by its number of refusal. Assumes nothing.
 use Prim.Native.Nat.{ℕ, _≤_, _<_}
 use mathlib.Core.List.{List, []}
-use mathlib.Core.Path.{_≡_, sym, _∙_}
+use mathlib.Core.Path.{_≡_, refl, sym, _∙_}
 use native.Mathlib.Nat.{zero-add}
 use native.Mathlib.Omega.{arith}
 use lib.Dec.{leb}
 use lib.ListN.{length}
-use borrow.Author.Tests.{leb-true, le-leb, lt-leb}
-use Rattle.rules.specs.Calls.{writeAnswer, bytesAfter}
-use Rattle.rules.proofs.Calls.{answer-written, bytes-written, answer-refused, bytes-kept}
+use borrow.Author.Tests.{leb-true, le-leb, lt-leb, ne-eqb}
+use Rattle.rules.specs.Calls.{written}
 use Rattle.rules.proofs.Refusal.{refusal-none, head-broken, head-kept, head-accepted}
-use Rattle.text.specs.Text.{Placed, roomRefusal}
+use Rattle.text.specs.Text.{writeAnswer, bytesAfter, Placed, roomRefusal}
 
 -- ---- a call with this number of refusal
+
+module _ (text : List ℕ) where
+  pub answer-written : writeAnswer 0 text ≡ record { number = 0; bytes = length text }
+  unfolding writeAnswer
+  answer-written = refl
+
+  pub bytes-written : (buffer : List ℕ) → bytesAfter 0 text buffer ≡ written buffer 0 text
+  unfolding bytesAfter
+  bytes-written buffer = refl
+
+  module _ {number : ℕ} (h : number ≡ 0 → ⊥) where
+    pub answer-refused : writeAnswer number text ≡ record { number = number; bytes = 0 }
+    unfolding writeAnswer
+    answer-refused = rw (ne-eqb number 0 h)
+
+    pub bytes-kept : (buffer : List ℕ) → bytesAfter number text buffer ≡ buffer
+    unfolding bytesAfter
+    bytes-kept buffer = rw (ne-eqb number 0 h)
 
 module _ (text buffer : List ℕ) {number : ℕ} where
   pub refused-by :

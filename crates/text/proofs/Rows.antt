@@ -14,10 +14,10 @@ use Rattle.rules.proofs.Count.{and-left, and-right, and-both}
 use Rattle.rules.proofs.Lengths.{header-length}
 use Rattle.rules.proofs.Refusal.{head-broken, head-kept, head-accepted}
 use Rattle.rules.proofs.Written.{joined-agree}
-use Rattle.text.specs.Text.{lineAt, linesText, rowsText, Counted, equalCounts, roomRefusal, sheetRefusal}
+use Rattle.text.specs.Text.{lineAt, linesText, rowsText, EqualCounts, equalCounts, roomRefusal, sheetRefusal}
 use Rattle.text.proofs.Room.{room-short, room-enough, room-there}
 
-pub counted : (starts runs blocks : ℕ) → equalCounts starts runs blocks ≡ true → Counted starts runs blocks
+pub counted : (starts runs blocks : ℕ) → equalCounts starts runs blocks ≡ true → EqualCounts starts runs blocks
 unfolding equalCounts
 counted starts runs blocks e =
     let each = and-right (leb starts 64) (eqb runs starts and eqb blocks starts) e in
@@ -28,7 +28,7 @@ counted starts runs blocks e =
     }
 
 -- for a caller that knows the counts
-pub counts-equal : (starts runs blocks : ℕ) → Counted starts runs blocks → equalCounts starts runs blocks ≡ true
+pub counts-equal : (starts runs blocks : ℕ) → EqualCounts starts runs blocks → equalCounts starts runs blocks ≡ true
 unfolding equalCounts
 counts-equal starts runs blocks c =
     and-both (le-leb starts 64 (c .most)) (and-both (eq-eqb runs starts (c .runs-each)) (eq-eqb blocks starts (c .blocks-each)))
@@ -75,7 +75,7 @@ module _ (starts runs blocks : List ℕ) where
 
     pub sheet-there :
         sheetRefusal starts runs blocks bytes ≡ 0 →
-        Counted (length starts) (length runs) (length blocks) × (length (rowsText starts runs blocks) ≤ bytes)
+        EqualCounts (length starts) (length runs) (length blocks) × (length (rowsText starts runs blocks) ≤ bytes)
     unfolding sheetRefusal roomRefusal
     sheet-there z =
         let kept = head-accepted 11 same later (omega arith) z in

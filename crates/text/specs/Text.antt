@@ -1,23 +1,30 @@
 -- The sheet program's text in lent bytes.
 use Prim.Native.Nat.{ℕ, _+_, _≤_}
-use mathlib.Core.Bool.{Bool}
+use mathlib.Core.Bool.{Bool, cond}
 use mathlib.Core.List.{List, [], _∷_, _++_}
 use mathlib.Core.Path.{_≡_}
 use lib.Dec.{leb, eqb}
 use lib.ListN.{length}
-use Rattle.rules.specs.Calls as calls
+use Rattle.rules.specs.Calls.{written}
 use Rattle.rules.specs.Count.{_and_, entry}
 use Rattle.rules.specs.Refusal.{rule, refusal}
 use Rattle.rules.specs.Text.{header, trainLine, joined}
 use Rattle.text.specs.declared.WriteAnswer.{WriteAnswer}
 
-abbrev pub asWriteAnswer : WriteAnswer → calls.WriteAnswer
-asWriteAnswer r = record { number = r .number; bytes = r .bytes }
+-- ---- calls that write bytes: the number 0 and how many are written, or the number of refusal and 0
+
+-- the answer of a call that has this number of refusal, or 0, and this text to write
+unfoldable pub writeAnswer : ℕ → List ℕ → WriteAnswer
+writeAnswer number text = cond (eqb number 0) (record { number = 0; bytes = length text }) (record { number = number; bytes = 0 })
+
+-- the lent bytes then: they begin with the text; on a refusal every value is kept
+unfoldable pub bytesAfter : ℕ → List ℕ → List ℕ → List ℕ
+bytesAfter number text buffer = cond (eqb number 0) (written buffer 0 text) buffer
 
 -- the text stands in the buffer from place `at` on, and `past` is the place behind it
 pub record Placed (buffer : List ℕ) (at : ℕ) (text : List ℕ) (past : ℕ) (after : List ℕ) : Type 0 where
   pub past-text : past ≡ at + length text
-  pub bytes : after ≡ calls.written buffer at text
+  pub bytes : after ≡ written buffer at text
 
 -- ---- the sheet, from the start, the run and the block of each train
 
@@ -33,7 +40,7 @@ unfoldable pub rowsText : List ℕ → List ℕ → List ℕ → List ℕ
 rowsText starts runs blocks = header ++ linesText starts runs blocks
 
 -- a run and a block for each start, and at most 64 of each
-pub record Counted (starts runs blocks : ℕ) : Type 0 where
+pub record EqualCounts (starts runs blocks : ℕ) : Type 0 where
   pub most : starts ≤ 64
   pub runs-each : runs ≡ starts
   pub blocks-each : blocks ≡ starts

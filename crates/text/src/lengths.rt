@@ -4,7 +4,7 @@ ghost use mathlib.Core.Path.{_≡_};
 ghost use Prim.Native.Nat.{_*_, _≤_};
 ghost use lib.ListN.{length};
 ghost use Rattle.rules.specs.Text.{decimal, trainLine};
-ghost use Rattle.text.specs.Text.{Counted, linesText};
+ghost use Rattle.text.specs.Text.{EqualCounts, linesText};
 
 pub(crate) fn decimal_length(n: u64) -> usize
     ensures { λ r. ⌜ (r ≡ length (decimal n)) × (r ≤ 20) ⌝ }
@@ -23,7 +23,7 @@ fn line_length(train: u64, start: u64, run: u64, block: u64) -> usize
 }
 
 pub(crate) fn lines_length(starts: &[u64], runs: &[u64], blocks: &[u64]) -> usize
-    requires { ⌜ Counted (length (now starts)) (length (now runs)) (length (now blocks)) ⌝ }
+    requires { ⌜ EqualCounts (length (now starts)) (length (now runs)) (length (now blocks)) ⌝ }
     ensures { λ r. ⌜ (r ≡ length (linesText (now (starts .entry)) (now (runs .entry)) (now (blocks .entry)))) × (r ≤ 84 * 64) ⌝ }
 {
     let mut total = 0;

@@ -13,9 +13,8 @@ use refusals::TOO_FEW;
 use refusals::sheet_refusal;
 ghost use mathlib.Core.Path.{_≡_};
 ghost use lib.ListN.{length};
-ghost use Rattle.rules.specs.Calls.{writeAnswer, bytesAfter};
 ghost use Rattle.rules.specs.Text.{refusalText};
-ghost use Rattle.text.specs.Text.{asWriteAnswer, rowsText, roomRefusal, sheetRefusal};
+ghost use Rattle.text.specs.Text.{writeAnswer, bytesAfter, rowsText, roomRefusal, sheetRefusal};
 
 // The number 0 and how many bytes are written, or the number of refusal and 0.
 #[repr(C)]
@@ -27,7 +26,7 @@ pub struct WriteAnswer {
 // The header, and a line for each train. Refused by 11 where the counts differ or exceed 64, or where the text does not fit.
 pub fn put_sheet(buf: &mut [u8], starts: &[u64], runs: &[u64], blocks: &[u64]) -> WriteAnswer
     ensures answer { λ r. ⌜
-        asWriteAnswer r
+        r
         ≡ writeAnswer (sheetRefusal (now (starts .entry)) (now (runs .entry)) (now (blocks .entry)) (length (now (buf .entry))))
         (rowsText (now (starts .entry)) (now (runs .entry)) (now (blocks .entry))) ⌝ }
     ensures bytes { λ _. ⌜
@@ -49,7 +48,7 @@ pub fn put_sheet(buf: &mut [u8], starts: &[u64], runs: &[u64], blocks: &[u64]) -
 
 // "refused ", the number and a line feed. Refused by 11 where the text does not fit.
 pub fn put_refusal(buf: &mut [u8], number: u64) -> WriteAnswer
-    ensures answer { λ r. ⌜ asWriteAnswer r ≡ writeAnswer (roomRefusal (refusalText number) (length (now (buf .entry)))) (refusalText number) ⌝ }
+    ensures answer { λ r. ⌜ r ≡ writeAnswer (roomRefusal (refusalText number) (length (now (buf .entry)))) (refusalText number) ⌝ }
     ensures bytes { λ _. ⌜
         now (buf .exit) ≡ bytesAfter (roomRefusal (refusalText number) (length (now (buf .entry)))) (refusalText number) (now (buf .entry)) ⌝ }
 {

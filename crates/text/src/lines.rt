@@ -4,7 +4,7 @@ use crate::pieces::write_field;
 ghost use Prim.Native.Nat.{_+_, _≤_};
 ghost use lib.ListN.{length};
 ghost use Rattle.rules.specs.Text.{trainLine};
-ghost use Rattle.text.specs.Text.{Placed, Counted, linesText};
+ghost use Rattle.text.specs.Text.{Placed, EqualCounts, linesText};
 
 fn write_line(buf: &mut [u8], at: usize, train: u64, start: u64, run: u64, block: u64) -> usize
     requires { ⌜ at + length (trainLine train start run block) ≤ length (now buf) ⌝ }
@@ -23,7 +23,7 @@ pub(crate) fn write_lines(
     runs: &[u64],
     blocks: &[u64],
 ) -> usize
-    requires { ⌜ Counted (length (now starts)) (length (now runs)) (length (now blocks)) ⌝ }
+    requires { ⌜ EqualCounts (length (now starts)) (length (now runs)) (length (now blocks)) ⌝ }
     requires { ⌜ at + length (linesText (now starts) (now runs) (now blocks)) ≤ length (now buf) ⌝ }
     ensures { λ r. ⌜ Placed (now (buf .entry)) at (linesText (now (starts .entry)) (now (runs .entry)) (now (blocks .entry))) r (now (buf .exit)) ⌝ }
 {

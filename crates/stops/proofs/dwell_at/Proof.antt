@@ -1,10 +1,10 @@
 use Prim.Native.Nat.{_<_, min}
 use mathlib.Core.Bool.{true}
-use mathlib.Core.Path.{_≡_, sym, ap, _∙_}
+use mathlib.Core.Path.{sym, _∙_}
 use native.Mathlib.Omega.{arith}
 use borrow.Author.Tests.{not-true, not-false, eq-eqb, ne-eqb}
 use Rattle.rules.proofs.Count.{length-row}
-use Rattle.stops.specs.Stops.{used, stopHere, dwellHere}
+use Rattle.stops.specs.Stops.{used, dwellHere}
 use Rattle.stops.proofs.Passing.{here-there, used-at}
 use borrow.Author.Needs.{needs}
 use Rattle.stops.proofs.dwell_at.Statement.{statement}

@@ -1,7 +1,6 @@
 use Prim.Native.Nat.{_<_, min}
-use mathlib.Core.Path.{_≡_, sym, ap₂, _∙_}
+use mathlib.Core.Path.{sym, _∙_}
 use native.Mathlib.Omega.{arith}
-use lib.Dec.{eqb}
 use Rattle.rules.proofs.Count.{length-row}
 use Rattle.stops.specs.Stops.{used}
 use Rattle.stops.proofs.Passing.{here-by, here-none, used-there, used-at}

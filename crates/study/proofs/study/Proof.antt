@@ -1,7 +1,7 @@
 use mathlib.Core.Path.{_≡_, sym, _∙_}
 use native.Mathlib.Omega.{arith}
 use Rattle.study.specs.Study.{studyRefusal}
-use Rattle.rules.proofs.Calls.{answer-refused, bytes-kept}
+use Rattle.text.proofs.Room.{answer-refused, bytes-kept}
 use Rattle.line.proofs.Opening.{file-number, file-accepted, file-trains}
 use Rattle.study.proofs.Texts.{study-refused, rows-long, study-answer, study-bytes, none-refused}
 use lib.ListN.{length}

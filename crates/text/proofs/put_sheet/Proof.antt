@@ -4,7 +4,7 @@ use mathlib.Core.Path.{_≡_, sym, _∙_}
 use native.Mathlib.Omega.{arith}
 use lib.ListN.{length}
 use Rattle.rules.specs.Text.{header}
-use Rattle.text.specs.Text.{rowsText, Counted, sheetRefusal}
+use Rattle.text.specs.Text.{rowsText, EqualCounts, sheetRefusal}
 use Rattle.text.proofs.Placed.{placed-then}
 use Rattle.text.proofs.Room.{refused-by, wrote-all}
 use Rattle.text.proofs.Rows.{rows-length, sheet-there}
@@ -20,7 +20,7 @@ none c = sym (c .before .sheet-refusal .ensures) ∙ c .if1 .left
 -- so the counts are equal and the text fits
 there :
     (c : tie.Else1) → let a = c .before .before .before .before .before .before .args in
-    Counted (length (a .starts .now)) (length (a .runs .now)) (length (a .blocks .now))
+    EqualCounts (length (a .starts .now)) (length (a .runs .now)) (length (a .blocks .now))
     × (length (rowsText (a .starts .now) (a .runs .now) (a .blocks .now)) ≤ length (a .buf .now))
 there c = sheet-there _ _ _ _ (none c)
 

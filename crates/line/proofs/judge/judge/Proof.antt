@@ -1,7 +1,4 @@
-use mathlib.Core.List.{List}
-use mathlib.Core.Path.{_≡_, ap, _∙_}
 use Rattle.rules.proofs.Accepted.{announced-there}
-use Rattle.reading.specs.declared.decode.DecodedFile.{DecodedFile}
 use Rattle.line.proofs.Judging.{line-here, by-sizes, by-line, by-trains}
 use borrow.Author.Needs.{needs}
 use Rattle.line.proofs.judge.judge.Statement.{statement}

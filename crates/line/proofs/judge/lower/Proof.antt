@@ -1,7 +1,6 @@
 use Rattle.rules.specs.Refusal.{lowerOf}
 use borrow.Author.Tests.{eq-eqb, ne-eqb}
 use native.Mathlib.Omega.{arith}
-use borrow.Author.Needs.{needs}
 use Rattle.line.proofs.judge.lower.Statement.{statement}
 use Rattle.line.proofs.judge.lower.Tie as tie
 

@@ -1,7 +1,5 @@
-use mathlib.Core.Path.{_≡_, ap, ap₂, _∙_}
+use mathlib.Core.Path.{ap, _∙_}
 use Rattle.rules.specs.File.{word}
-use Rattle.reading.specs.Decoded.{decodedLine}
-use Rattle.reading.specs.declared.decode.DecodedFile.{DecodedFile}
 use Rattle.reading.proofs.Decoding.{array-read, line-decoded}
 use borrow.Author.Needs.{needs}
 use Rattle.reading.proofs.decode.decode_file.Statement.{statement}

@@ -1,8 +1,7 @@
 use Prim.Native.Nat.{_≤_, _-_}
-use mathlib.Core.List.{List}
 use mathlib.Core.Path.{_≡_, sym, ap, _∙_}
 use native.Mathlib.Omega.{arith}
-use lib.ListN.{length, drop}
+use lib.ListN.{length}
 use Rattle.rules.specs.File.{word, trainCount, recordAt}
 use Rattle.rules.proofs.Accepted.{ends-early, bytes-follow, ends-there}
 use Rattle.rules.proofs.File.{record-first, records-end, trains-within, part-next, part-inside}

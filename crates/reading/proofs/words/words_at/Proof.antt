@@ -1,8 +1,8 @@
 use lib.ListN.{getD-replicate}
 use native.Mathlib.Numerals.{add-one}
 use native.Mathlib.Omega.{arith}
-use mathlib.Core.Path.{_≡_, refl}
-use Prim.Native.Nat.{_≤_, _-_, _+_, _*_, min}
+use mathlib.Core.Path.{refl}
+use Prim.Native.Nat.{_≤_, _-_, _+_, _*_}
 use Rattle.rules.specs.File.{word, words}
 use Rattle.rules.proofs.Fill.{Filled, fill-none, fill-up, fill-padded}
 use borrow.Author.Needs.{needs}

@@ -1,8 +1,7 @@
-use Prim.Native.Nat.{_-_, _≤_, _<_}
-use mathlib.Core.Path.{_≡_, refl, ap, _∙_}
+use Prim.Native.Nat.{_-_, _<_}
+use mathlib.Core.Path.{_≡_, refl, _∙_}
 use native.Mathlib.Omega.{arith}
 use lib.ListN.{length}
-use Rattle.rules.specs.Calls.{Opening}
 use Rattle.rules.specs.File.{trainCount}
 use Rattle.rules.proofs.Accepted.{file-there}
 use Rattle.rules.proofs.File.{part-inside}
