@@ -1,7 +1,7 @@
 -- The third demand for starts: every list of adding calls from a sheet just opened. Assumes nothing.
 use Prim.Native.Nat.{ℕ, zero, suc, _+_, _≤_, _<_}
 use mathlib.Core.Bool.{Bool, true, false, cond}
-use mathlib.Core.List.{List, [], _∷_}
+use mathlib.Core.List.{List, [], _∷_, _++_}
 use mathlib.Core.Option.{Option, none, some}
 use mathlib.Core.Path.{_≡_, refl, sym, ap, _∙_}
 use native.Mathlib.Nat.{add-zero, zero-add, le-of-suc-le-suc}
@@ -16,19 +16,26 @@ use Rattle.rules.specs.Demand.{answers, leftBy, starts, trains, refusalO
 use Rattle.rules.specs.Meaning.{Clears}
 use Rattle.rules.proofs.Count.{within-means}
 use Rattle.rules.proofs.Sheet.{rule-12, start-is, after-is, either-way, all-kept, Sound, sound-added, fresh-free, sound-fresh}
+use Rattle.rules.proofs.Numbers.{judges-hold}
 use Rattle.rules.proofs.Beyond.{unread-list, unaltered-list}
 
 -- the first broken rule where 12 is kept
 abbrev judged : ℕ → ℕ → Hold → Option ℕ
-judged n trains h = firstBroken (rule 12 true ∷ rule 13 (roomRule trains) ∷ rule 14 (holdRule n h) ∷ [])
+judged n trains h = firstBroken (rule 13 (roomRule trains) ∷ rule 14 (holdRule n h) ∷ [])
 
 judged-adding : (s : Sheet) → Sound s → (h : Hold) → firstBroken (addingRules s h) ≡ judged (s .blocks) (s .trains) h
+unfolding firstBroken
 judged-adding s ok h = rw (rule-12 s .1 (ok .keeps))
 
 sound-left : (s : Sheet) → Sound s → (calls : List Hold) → Sound (leftBy s calls)
 unfolding leftBy
 sound-left s ok [] = ok
 sound-left s ok (h ∷ calls) = sound-left (added s h .sheet) (sound-added s ok h) calls
+
+answers-more : (s : Sheet) (calls more : List Hold) → answers s (calls ++ more) ≡ answers s calls ++ answers (leftBy s calls) more
+unfolding answers leftBy
+answers-more s [] more = refl
+answers-more s (h ∷ calls) more = ap (λ got. added s h .answer ∷ got) (answers-more (added s h .sheet) calls more)
 
 -- The parts of the claim from any sheet on: it has trains already, and the starts ts of the trains hs clear its free times.
 abbrev NumbersFrom : Sheet → List Hold → List Answer → Type 0
@@ -152,8 +159,9 @@ third-demand n low high calls =
     let f : From (fresh n) calls (answers (fresh n) calls) = from (fresh n) ok calls in
     record {
       answered = f .answered;
-      numbers = λ i l. rw zero-add at (f .numbers i l);
-      sheets = λ i. rule-12 (leftBy (fresh n) (take i calls)) .1 (sound-left (fresh n) ok (take i calls) .keeps);
+      followed = answers-more (fresh n) calls;
+      numbers = λ i l. rw (f .numbers i l, zero-add) (judges-hold _ n (getD calls i emptyHold) .first);
+      sheets = λ i. sound-left (fresh n) ok (take i calls) .keeps;
       asMany = f .asMany;
       apart = f .apart;
       least = λ rival q w. f .least rival q (λ j m b o. omega (arith, fresh-free n b (omega arith))) w;

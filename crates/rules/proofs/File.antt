@@ -2,7 +2,7 @@
 -- announced end exactly where rule 1 is kept. Assumes nothing.
 use Prim.Native.Nat.{ℕ, zero, suc, _+_, _-_, _*_, _/_, _%_, _≤_, _<_}
 use mathlib.Core.Bool.{Bool, true, false, cond}
-use mathlib.Core.List.{List}
+use mathlib.Core.List.{List, [], _∷_}
 use mathlib.Core.Logic.{_↔_, ⊎-elim}
 use mathlib.Core.Path.{_≡_, refl, sym, ap, ap₂, _∙_}
 use native.Mathlib.Nat.{le-antisymm, le-of-eq, le-of-suc-le-suc, eq-or-lt-of-le, zero-add, add-zero}
@@ -43,6 +43,14 @@ word-drop file at place =
 pub words-drop : (file : List ℕ) (at place n : ℕ) → words (drop at file) place n ≡ words file (at + place) n
 unfolding words
 words-drop file at place n = row-agree _ _ n (λ i h. word-drop file at (place + 2 * i) ∙ ap (word file) (omega arith))
+
+-- the sizes of a line are the file's first six numbers: P, L, K, B, set-up time, release time
+pub sizes-in-order :
+    let file : List ℕ = 1 ∷ 0 ∷ 2 ∷ 0 ∷ 3 ∷ 0 ∷ 4 ∷ 0 ∷ 5 ∷ 0 ∷ 6 ∷ 1 ∷ [] in
+    (lineOf file .points ≡ 1) × (lineOf file .step ≡ 2) × (limitCount file ≡ 3) × (blockCount file ≡ 4) × (lineOf file .setUp ≡ 5)
+    × (lineOf file .release ≡ 262)
+unfolding word lineOf
+sizes-in-order = (refl, refl, refl, refl, refl, refl)
 
 -- ---- the arrays
 

@@ -14,6 +14,7 @@ pub mod Root
 pub mod Time
 pub mod Hold
 pub mod Sheet
+pub mod Numbers
 pub mod Beyond
 pub mod Demand
 pub mod Headway

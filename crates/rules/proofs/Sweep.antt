@@ -8,7 +8,7 @@ use Rattle.rules.specs.Run.{forwardSweep, backwardBefore, backwardSweep}
 module _ (caps step : ℕ → ℕ) where
   pub forward-le : (i : ℕ) → forwardSweep caps step i ≤ caps i
   unfolding forwardSweep
-  forward-le zero = le-refl _
+  forward-le zero = omega arith
   forward-le (suc i) = omega arith
 
 module _ (tops : ℕ → ℕ) (loss n : ℕ) where

@@ -11,13 +11,11 @@ use Rattle.rules.specs.File.{setUpTime, releaseTime, trainCount}
 use Rattle.rules.specs.Line.{lineOf, trainOf}
 use Rattle.rules.specs.Hold.{emptyHold, holdOf}
 use Rattle.rules.specs.Sheet.{fresh}
-use Rattle.rules.specs.Refusal.{firstBroken}
 use Rattle.rules.specs.Calls.{Answer, accepted, refused, fileRefusal}
 use Rattle.rules.specs.Demand.{starts, refusalOf, LeastStarts}
 use Rattle.rules.specs.Text.{header, refusalText, joined, holdsFrom, fileAnswers, lineOfTrain, sheetText, programText}
 use Rattle.rules.proofs.Accepted.{line-sizes}
 use Rattle.rules.proofs.Hold.{file-hold}
-use Rattle.rules.proofs.Sheet.{rule-13, rule-14}
 use Rattle.rules.proofs.Demand.{third-demand}
 
 -- ---- the holds of a file
@@ -44,20 +42,16 @@ starts-few (refused n ∷ got) = omega (arith, starts-few got)
 pub file-answers :
     (file : List ℕ) → setUpTime file < 65536 → releaseTime file < 65536 → fileRefusal file ≡ 0 → (k : ℕ) → k < trainCount file →
     refusalOf (getD (fileAnswers file) k (refused 0)) ≡ none
-unfolding fileAnswers firstBroken
+unfolding fileAnswers
 file-answers file s r ok k h =
     let sizes = line-sizes file ok in
     let blocks : ℕ = length (lineOf file .blockStarts) in
     let calls = holdsFrom file 0 (trainCount file) in
     let d : LeastStarts blocks (fresh blocks) calls = third-demand blocks (sizes .blocks-least) (sizes .blocks-most) calls in
     let at : getD calls k emptyHold ≡ holdOf (lineOf file) (trainOf file k) = rw zero-add at (hold-at file 0 (trainCount file) k h) in
-    d .numbers k (rw length-holds h)
-    ∙ rw (
-      at,
-      rule-13 (length (starts (take k (fileAnswers file)))) .1
-          (λ e. omega (arith, starts-few (take k (fileAnswers file)), length-take k (fileAnswers file), sizes .trains-most)),
-      rule-14 _ _ .1 (file-hold file s r ok k h),
-    )
+    let room : length (starts (take k (fileAnswers file))) ≡ 64 → ⊥ =
+    λ e. omega (arith, starts-few (take k (fileAnswers file)), length-take k (fileAnswers file), sizes .trains-most) in
+    d .numbers k (rw length-holds h) .1 room .1 (rw at (file-hold file s r ok k h))
 
 -- ---- the text
 

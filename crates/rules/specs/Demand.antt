@@ -1,16 +1,16 @@
 -- Document 01, "The sheet of starts": the list of the third demand. It begins with a sheet just opened; its calls are adding calls
 -- with any arguments, refused ones included; each gets the sheet that the one before left.
 use Prim.Native.Nat.{ℕ, _+_, _≤_, _<_}
-use mathlib.Core.Bool.{true}
-use mathlib.Core.List.{List, [], _∷_}
+use mathlib.Core.List.{List, [], _∷_, _++_}
 use mathlib.Core.Option.{Option, none, some}
 use mathlib.Core.Path.{_≡_}
 use lib.ListN.{length, getD, take}
 use Rattle.rules.specs.Count.{entry}
 use Rattle.rules.specs.Hold.{Hold, emptyHold}
 use Rattle.rules.specs.Sheet.{Sheet, begin, end, freeTime}
-use Rattle.rules.specs.Refusal.{rule, firstBroken, sheetRule, roomRule, holdRule}
 use Rattle.rules.specs.Calls.{Answer, accepted, refused, added}
+use Rattle.rules.specs.Admitted.{Rule12}
+use Rattle.rules.specs.Numbers.{AnswersBy, holdChecks}
 
 -- the answers to a list of adding calls, and the sheet that it leaves
 unfoldable pub answers : Sheet → List Hold → List Answer
@@ -44,8 +44,7 @@ refusalOf (refused n) = some n
 abbrev pub RightNumbers : ℕ → List Hold → List Answer → Type 0
 RightNumbers n calls got =
     (i : ℕ) → i < length calls →
-    refusalOf (getD got i (refused 0)) ≡
-    firstBroken (rule 12 true ∷ rule 13 (roomRule (length (starts (take i got)))) ∷ rule 14 (holdRule n (getD calls i emptyHold)) ∷ [])
+    AnswersBy (holdChecks (length (starts (take i got))) n (getD calls i emptyHold)) some none (refusalOf (getD got i (refused 0)))
 
 -- Starts are without overlap if, in every block within the block count n, each train's start plus beginning is at least the start
 -- plus end of every train before it.
@@ -69,9 +68,11 @@ pub record SameWithin (n : ℕ) (h h′ : Hold) : Type 0 where
 -- The third demand for starts, of the sheet s with n blocks, as one claim about a list of adding calls.
 pub record LeastStarts (n : ℕ) (s : Sheet) (calls : List Hold) : Type 0 where
   pub answered : length (answers s calls) ≡ length calls
+  -- the answers to more calls are those to them on the sheet that this list leaves
+  pub followed : (more : List Hold) → answers s (calls ++ more) ≡ answers s calls ++ answers (leftBy s calls) more
   -- the numbers of refusal; no sheet of the list breaks 12
   pub numbers : RightNumbers n calls (answers s calls)
-  pub sheets : (i : ℕ) → sheetRule (leftBy s (take i calls)) ≡ true
+  pub sheets : (i : ℕ) → Rule12 (leftBy s (take i calls))
   -- the trains at the starts returned
   pub asMany : length (starts (answers s calls)) ≡ length (trains calls (answers s calls))
   pub apart : WithoutOverlap n (trains calls (answers s calls)) (starts (answers s calls))

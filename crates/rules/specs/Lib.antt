@@ -9,7 +9,8 @@ pub mod Hold
 pub mod Sheet
 pub mod Refusal
 pub mod Calls
+pub mod Admitted
+pub mod Numbers
 pub mod Demand
 pub mod Text
-pub mod Admitted
 pub mod Meaning

@@ -1,8 +1,10 @@
 -- Laws of a train's changes of squared speed, of its decoded bands and of the traction step by them. Assumes nothing.
-use Prim.Native.Nat.{ℕ, suc, _+_, _-_, _≤_, _<_, min}
+use Prim.Native.Nat.{ℕ, zero, suc, _+_, _-_, _≤_, _<_, min}
 use mathlib.Core.List.{List, [], _∷_}
+use mathlib.Core.Logic.{⊎-elim}
 use mathlib.Core.Path.{_≡_, refl, sym, ap, _∙_}
-use native.Mathlib.Nat.{le-antisymm, mul-le-mul, mul-le-mul-right}
+use native.Mathlib.Decide.{decLt}
+use native.Mathlib.Nat.{le-antisymm, le-refl, le-trans, eq-or-lt-of-le, add-zero, mul-le-mul, mul-le-mul-right}
 use native.Mathlib.Omega.{arith}
 use lib.ListN.{length}
 use Rattle.rules.specs.Count.{entry, row, greatestBelow}
@@ -10,12 +12,12 @@ use Rattle.rules.specs.Line.{Line, Train}
 use Rattle.rules.specs.Run.{squared, change, brakingLoss, lastOr, lastTop, tractionStep}
 use Rattle.rules.specs.Admitted.{Admitted}
 use Rattle.rules.specs.Meaning.{bandPart}
-use Rattle.rules.proofs.Count.{at-most-greatest, greatest-at-most, length-row, entry-row}
+use Rattle.rules.proofs.Count.{below-suc, at-most-greatest, greatest-at-most, length-row, entry-row}
 use Rattle.rules.proofs.Step.{practice-most, squared-most, last-top, step-is}
 use Rattle.values.specs.Values.{asTrain}
 use Rattle.values.specs.declared.decoded.Train as decoded
 use Rattle.run.specs.declared.bands.Bands.{Bands}
-use Rattle.run.specs.Traction.{IsBands, BandBounds}
+use Rattle.run.specs.Traction.{Falls, IsBands, BandBounds}
 
 -- ---- changes of squared speed
 
@@ -57,6 +59,40 @@ module _ (l : Line) (t : decoded.Train) (a : Admitted l (asTrain t)) where
   top-most k h = rw entry-row at (a .rule7 .top-most k (rw length-row h))
 
 -- ---- the traction step
+
+-- one band more that does not reach above w, and one more that gains no more than the one before it
+pub passed-more : (squares : List ℕ) {w n : ℕ} → ((j : ℕ) → j < n → entry squares j ≤ w) → entry squares n ≤ w → (j : ℕ) → j < n + 1 → entry squares j ≤ w
+passed-more squares {w} {n} all here j h = below-suc (λ j. entry squares j ≤ w) n all here j (omega arith)
+
+pub falls-more : (gains : List ℕ) {n : ℕ} → 1 ≤ n → Falls n gains → entry gains n ≤ entry gains (n - 1) → Falls (n + 1) gains
+falls-more gains {n} p falls here k h =
+    ⊎-elim (λ e. let z : suc k - 1 ≡ k = omega arith in rw (← e, z) at here) (λ l. falls k l) (eq-or-lt-of-le (le-of k h))
+  where
+    le-of : (k : ℕ) → suc k < n + 1 → suc k ≤ n
+    le-of k h = omega arith
+
+-- of gains that fall, that of an earlier band is the greater
+falls-far : (gains : List ℕ) (count : ℕ) → Falls count gains → (j d : ℕ) → j + d < count → entry gains (j + d) ≤ entry gains j
+falls-far gains count falls j zero h = rw add-zero (le-refl _)
+falls-far gains count falls j (suc d) h =
+    let e : j + suc d ≡ suc (j + d) = omega arith in
+    rw e (le-trans (falls (j + d) (omega arith)) (falls-far gains count falls j d (omega arith)))
+
+-- the first band with its top above w gives the step where the gains fall and it does not pass this top
+pub band-gives :
+    (count : ℕ) (gains squares : List ℕ) (w band : ℕ) → Falls count gains → band < count → ((k : ℕ) → k < band → entry squares k ≤ w) →
+    w + entry gains band ≤ entry squares band → w + entry gains band ≡ greatestBelow count (λ k. min (w + entry gains k) (entry squares k))
+band-gives count gains squares w band falls h passed room =
+    le-antisymm (omega (arith, at-most-greatest count part band h)) (greatest-at-most count part (w + entry gains band) (λ k l. part-most k l (decLt k band)))
+  where
+    part : ℕ → ℕ
+    part k = min (w + entry gains k) (entry squares k)
+
+    part-most : (k : ℕ) → k < count → Dec (k < band) → part k ≤ w + entry gains band
+    part-most k l (yes b) = omega (arith, passed k b)
+    part-most k l (no b) =
+        let e : band + (k - band) ≡ k = omega arith in
+        omega (arith, ap (entry gains) e, falls-far gains count falls band (k - band) (omega arith))
 
 -- a cap at most w and the last band's most is at most the step from w
 pub cap-reached :

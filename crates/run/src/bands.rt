@@ -7,18 +7,35 @@ use values::Line;
 use values::SquaredSpeed;
 use values::Train;
 use widths::wide;
+ghost use mathlib.Core.Bool.{true};
 ghost use mathlib.Core.Path.{_≡_};
-ghost use Prim.Native.Nat.{_+_, _≤_, min};
+ghost use Prim.Native.Nat.{ℕ, _+_, _≤_, _<_, min};
 ghost use Rattle.rules.specs.Admitted.{Admitted};
 ghost use Rattle.rules.specs.Count.{entry, greatestBelow};
 ghost use Rattle.values.specs.Values.{asLine, asTrain};
-ghost use Rattle.run.specs.Traction.{IsBands, BandBounds};
+ghost use Rattle.run.specs.Traction.{Falls, IsBands, BandBounds};
 
-// Of each band the squared speed gained over one step, and the square of 100 times its top.
+// Of each band the squared speed gained over one step, and the square of 100 times its top; and whether the gains fall from band to band.
 pub struct Bands {
     pub count: usize,
     pub gains: [u32; 8],
     pub squares: [u32; 8],
+    pub falling: bool,
+}
+
+// No band gains more than the one before it.
+fn gains_fall(count: usize, gains: &[u32; 8]) -> bool
+    requires { ⌜ count ≤ 8 ⌝ }
+    ensures { λ r. ⌜ (r ≡ true → Falls count (now (gains .entry))) ⌝ }
+{
+    let mut k = 1;
+    while k < count {
+        if gains[k - 1] < gains[k] {
+            return false;
+        }
+        k += 1;
+    }
+    true
 }
 
 pub(crate) fn bands_of(line: Line, train: Train) -> Bands
@@ -36,15 +53,17 @@ pub(crate) fn bands_of(line: Line, train: Train) -> Bands
         squares[k] = square.0;
         k += 1;
     }
+    let falling = gains_fall(count, &gains);
     Bands {
         count,
         gains,
         squares,
+        falling,
     }
 }
 
-// The traction step: the greatest of the bands' parts, each the lesser of w with the gain and the square of the top.
-pub(crate) fn traction_step(
+// The greatest of the bands' parts, each the lesser of w with the gain and the square of the top.
+fn greatest_part(
     count: usize,
     gains: &[u32; 8],
     squares: &[u32; 8],
@@ -61,4 +80,42 @@ pub(crate) fn traction_step(
         k += 1;
     }
     best
+}
+
+// The first band whose top is above w, or the count where there is none.
+fn band_above(count: usize, squares: &[u32; 8], w: SquaredSpeed) -> usize
+    requires { ⌜ count ≤ 8 ⌝ }
+    ensures { λ r. ⌜ (r ≤ count) × ((k : ℕ) → k < r → entry (now (squares .entry)) k ≤ w .0) ⌝ }
+{
+    let mut k = 0;
+    while k < count {
+        if w.0 < squares[k] {
+            return k;
+        }
+        k += 1;
+    }
+    k
+}
+
+// The traction step. Where the gains fall, the first band with its top above w gives it, as long as it does not pass this top.
+pub(crate) fn traction_step(
+    count: usize,
+    gains: &[u32; 8],
+    squares: &[u32; 8],
+    falling: bool,
+    w: SquaredSpeed,
+) -> SquaredSpeed
+    requires { ⌜ BandBounds count (now gains) (now squares) × (w .0 ≤ 900000000) × (falling ≡ true → Falls count (now gains)) ⌝ }
+    ensures { λ r. ⌜ r .0 ≡ greatestBelow count (λ k. min (w .0 + entry (now (gains .entry)) k) (entry (now (squares .entry)) k)) ⌝ }
+{
+    if falling {
+        let band = band_above(count, squares, w);
+        if band < count {
+            let drawn = w.0 + gains[band];
+            if drawn <= squares[band] {
+                return SquaredSpeed(drawn);
+            }
+        }
+    }
+    greatest_part(count, gains, squares, w)
 }

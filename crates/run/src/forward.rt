@@ -13,7 +13,7 @@ use values::Line;
 use values::SquaredSpeed;
 use values::Train;
 use widths::size;
-ghost use mathlib.Core.Bool.{cond};
+ghost use mathlib.Core.Bool.{true, cond};
 ghost use mathlib.Core.List.{_++_};
 ghost use mathlib.Core.Path.{_≡_};
 ghost use Prim.Native.Nat.{_+_, _-_, _≤_, min};
@@ -22,7 +22,7 @@ ghost use Rattle.rules.specs.Admitted.{Admitted};
 ghost use Rattle.rules.specs.Count.{entry, greatestBelow, row};
 ghost use Rattle.rules.specs.Run.{squared, forward};
 ghost use Rattle.values.specs.Values.{asLine, asTrain};
-ghost use Rattle.run.specs.Traction.{BandBounds};
+ghost use Rattle.run.specs.Traction.{Falls, BandBounds};
 
 // The cap of a speed in km/h: 0 at a stop.
 fn cap_of(stopped: bool, v: u32) -> SquaredSpeed
@@ -40,17 +40,18 @@ fn capped_step(
     count: usize,
     gains: &[u32; 8],
     squares: &[u32; 8],
+    falling: bool,
     w: SquaredSpeed,
     cap: SquaredSpeed,
 ) -> SquaredSpeed
-    requires { ⌜ BandBounds count (now gains) (now squares) × (w .0 ≤ 900000000) ⌝ }
+    requires { ⌜ BandBounds count (now gains) (now squares) × (w .0 ≤ 900000000) × (falling ≡ true → Falls count (now gains)) ⌝ }
     requires { ⌜ (1 ≤ count) × (cap .0 ≤ entry (now squares) (count - 1)) ⌝ }
     ensures { λ r. ⌜ r .0 ≡ min (cap .0) (greatestBelow count (λ k. min (w .0 + entry (now (gains .entry)) k) (entry (now (squares .entry)) k))) ⌝ }
 {
     if cap.0 <= w.0 {
         return cap;
     }
-    let step = traction_step(count, gains, squares, w);
+    let step = traction_step(count, gains, squares, falling, w);
     lesser(cap, step)
 }
 
@@ -82,7 +83,7 @@ pub(crate) fn write_forward(line: Line, train: Train, speeds: &mut [u32])
         next = stop_from(&stop_points, train.stop_count, next, i);
         let stopped = stop_here(&stop_points, train.stop_count, next, i);
         let cap = cap_of(stopped, covered.lowest);
-        w = capped_step(bands.count, &gains, &squares, w, cap);
+        w = capped_step(bands.count, &gains, &squares, bands.falling, w, cap);
         speeds[i] = w.0;
         i += 1;
         covered = covered_at(&limit_points, &limits, line.limit_count, top, n, i, covered);

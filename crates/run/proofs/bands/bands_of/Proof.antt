@@ -81,13 +81,17 @@ loop-again c =
       fill-up (o .inv .3) (omega arith) (add-one _) (omega arith) (c .squared-of .ensures ∙ ap squared (c .before .wide3 .ensures .0)),
     )
 
+gains-fall-requires : tie.Need-gains-fall-requires Inv-loop μ-loop
+gains-fall-requires c κs = search needs
+
 returns : tie.Need-returns Inv-loop μ-loop
 returns c =
-    let o = c .before .loop in
+    let o = c .before .before .before .loop in
     record {
       count = sym (length-row _ _);
-      gain = λ k h. o .inv .2 .inside k (omega arith) (omega arith) ∙ ap₂ change (sym (entry-row _ _ k h)) (c .before .before .wide .ensures .0);
+      gain = λ k h. o .inv .2 .inside k (omega arith) (omega arith) ∙ ap₂ change (sym (entry-row _ _ k h)) (c .before .before .before .before .wide .ensures .0);
       square = λ k h. o .inv .3 .inside k (omega arith) (omega arith) ∙ ap squared (sym (entry-row _ _ k h));
+      falls = c .gains-fall .ensures;
     }
 
 pub bands-of-spec : {M : Type 1} → statement M
@@ -113,4 +117,5 @@ bands-of-spec =
     add-k
     loop-less
     loop-again
+    gains-fall-requires
     returns)

@@ -124,7 +124,7 @@ capped-step-requires c κs =
     let s = start o in
     let b = bands o in
     let m = last-most _ _ (s .pre .0) _ b in (
-      (bands-bounded _ _ (s .pre .0) _ b, o .before .loop .inv .4),
+      (bands-bounded _ _ (s .pre .0) _ b, o .before .loop .inv .4, b .falls),
       (m .0, omega (arith, m .1, cap-here k, cap-top (asLine (s .args .line)) (asTrain (s .args .train)) (o .before .loop .i))),
     )
 
