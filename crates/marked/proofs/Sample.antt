@@ -13,8 +13,8 @@ use Rattle.rules.specs.Time.{nextDigit, rootDigits, root, cellTime, dwellFrom, 
 use Rattle.rules.specs.Hold.{Hold, approachPoint, holdBegin, holdEnd, holdWith, holdOf}
 use Rattle.rules.specs.Sheet.{fresh, leastStart, blockNamed, released, sheetAfter}
 use Rattle.rules.specs.Refusal.{firstBroken, refusal, whole, nothingAfter, lineSizes, trainSizes, limitPointsRule, limitsRule, blocksRule, bandsRule}
-use Rattle.rules.specs.Refusal.{stopsRule, lastBlockRule, decided, trainThere, sheetRule, holdRule}
-use Rattle.rules.specs.Calls.{fileRefusal, trainRefusal, trainRecord, accepted, added, opened, headwayOf, headway}
+use Rattle.rules.specs.Refusal.{stopsRule, lastBlockRule, decided, trainThere, buffersLong, sheetRule, holdRule}
+use Rattle.rules.specs.Calls.{fileRefusal, trainRefusal, trainRecord, runRefusal, held, accepted, added, opened, headwayOf, headway}
 use Rattle.rules.specs.Demand.{answers}
 use Rattle.rules.specs.Text.{digitsOf, decimal, field, header, trainLine, refusalText, joined, holdsFrom, fileAnswers, runningTime, lineOfTrain}
 use Rattle.rules.specs.Text.{sheetText, programText}
@@ -45,6 +45,7 @@ pub record Marked : Type 0 where
   pub m1 : runRow (lineOf sample) (trainOf sample 0) ≡ 0 ∷ 12960000 ∷ 25920000 ∷ 38880000 ∷ 25920000 ∷ 12960000 ∷ 0 ∷ []
   pub m2 : runTimes (lineOf sample) (trainOf sample 0) ≡ 0 ∷ 20000000 ∷ 28284433 ∷ 34641488 ∷ 40998543 ∷ 49282976 ∷ 69282976 ∷ []
   pub m3 : holdOf (lineOf sample) (trainOf sample 1) ≡ twoBlocks 0 20000000 42641488 77282976
+  pub m3-call : held sample 1 7 7 ≡ record { number = 0; hold = twoBlocks 0 20000000 42641488 77282976 }
   pub m4 : fileAnswers sample ≡ accepted 0 0 ∷ accepted 57282976 2 ∷ []
   pub m4-headway : headway (holdOf (lineOf sample) (trainOf sample 0)) (holdOf (lineOf sample) (trainOf sample 1)) ≡ headwayOf 57282976
   -- "train start run block", "1 0 69282976 0" and "2 57282976 69282976 2", each with a line feed
@@ -126,14 +127,15 @@ unfolding bytes sampleLine sampleTrain sampleWith sample middleLine middleTrain 
     lastBelow ceilDiv word words recordAt lineOf trainAt squared change brakingLoss trainCells limitFrom cellLimit lastOr lowestCovered capSpeed listed
     capOf cap bandStep bandsStep tractionStep forwardSweep backwardBefore backwardSweep forward runAt runRow nextDigit rootDigits root cellTime dwellFrom
     dwell arrival departure arrivals approachPoint holdBegin holdEnd holdWith fresh leastStart blockNamed released sheetAfter firstBroken refusal whole
-    nothingAfter lineSizes trainSizes limitPointsRule limitsRule blocksRule bandsRule stopsRule lastBlockRule decided trainThere sheetRule holdRule
-    fileRefusal trainRefusal trainRecord added opened headway answers digitsOf decimal field header trainLine refusalText joined holdsFrom fileAnswers
+    nothingAfter lineSizes trainSizes limitPointsRule limitsRule blocksRule bandsRule stopsRule lastBlockRule decided trainThere buffersLong sheetRule holdRule
+    fileRefusal trainRefusal trainRecord runRefusal held added opened headway answers digitsOf decimal field header trainLine refusalText joined holdsFrom fileAnswers
     runningTime lineOfTrain sheetText programText
 tables = (
   record {
     m1 = refl;
     m2 = refl;
     m3 = refl;
+    m3-call = refl;
     m4 = refl;
     m4-headway = refl;
     m4-text = refl;

@@ -20,7 +20,7 @@ use Rattle.rules.proofs.Count.{below-suc, and-left, and-right, and-both
 use Rattle.rules.proofs.File.{parallel}
 use Rattle.rules.proofs.Rules.{rule-3-line, rule-3-train, rule-4, rule-5, rule-6, rule-7, rule-8, rule-9}
 use Rattle.rules.proofs.Refusal.{refusal-none, refusal-cons, Positive, head-broken, head-kept, head-accepted, append-refused}
-use Rattle.rules.proofs.Refusal.{append-kept, append-accepted, refusal-most, Rising, lowest-broken, RisingTests}
+use Rattle.rules.proofs.Refusal.{append-kept, append-accepted, refusal-most, lowest-broken, RisingTests}
 use Rattle.rules.proofs.Refusal.{Beyond, beyond-decided, decided-both, decided-true, lower-none, lower-zero}
 
 -- ---- the rules of a line, of a train, and of all trains

@@ -5,7 +5,7 @@ use mathlib.Core.List.{List, [], _∷_, _++_}
 use mathlib.Core.Logic.{_↔_}
 use mathlib.Core.Option.{Option, none, some}
 use mathlib.Core.Path.{_≡_, refl, sym, ap, _∙_}
-use lib.Dec.{eqb}
+use lib.Dec.{leb, eqb}
 use lib.ListN.{length}
 use borrow.Author.Tests.{leb-true, le-leb, ltb-true, lt-ltb}
 use Rattle.rules.specs.Count.{_and_, orZero, every}
@@ -15,12 +15,11 @@ use Rattle.rules.specs.Run.{runRow}
 use Rattle.rules.specs.Time.{runTimes}
 use Rattle.rules.specs.Hold.{Hold, emptyHold, holdOf}
 use Rattle.rules.specs.Sheet.{Sheet, fresh}
-use Rattle.rules.specs.Refusal.{Rule, rule, firstBroken, refusal, whole, nothingAfter, sizesRule, sizesOn, decided, lineRules, fileRules}
-use Rattle.rules.specs.Refusal.{rulesOn, trainThere, trainRules, buffersLong, runRules, countRule, sheetRule, roomRule, holdRule, addingRules}
-use Rattle.rules.specs.Refusal.{TrainRule, oneTrainRules, everyTrainRules}
+use Rattle.rules.specs.Refusal.{Rule, rule, firstBroken, refusal, whole, nothingAfter, decided, lineRules, everyTrainRules, fileRules}
+use Rattle.rules.specs.Refusal.{rulesOn, trainThere, trainRules, buffersLong, runRules, countRule, roomRule, holdRule}
 use Rattle.rules.specs.Calls.{fileRefusal, trainRefusal, trainRecord, RecordPlace, recordPlace, runRefusal, speedsAfter, timesAfter, written}
 use Rattle.rules.specs.Calls.{HoldAnswer, held, Opening, opened, accept, refuse, addition, added}
-use Rattle.rules.specs.Admitted.{Rule3Line, Rule3Train}
+use Rattle.rules.specs.Text.{header, joined, refusalText, lineOfTrain, sheetText, mostInput, programText}
 use Rattle.rules.specs.Numbers.{Check, check, AnswersBy, lineChecks, trainChecks, EveryTrain, fileChecks, checksOn, trainCallChecks}
 use Rattle.rules.specs.Numbers.{runCallChecks, openingChecks, holdChecks, addingChecks}
 use Rattle.rules.proofs.Count.{and-left, and-right, and-both, every-at, every-all, within-means, within-holds}
@@ -85,7 +84,7 @@ module _ (file : List ℕ) where
       (judges-first (every-kept (trainCount file) _ _ (λ k. rule-8 l (trainOf file k)))
       (judges-first (every-kept (trainCount file) _ _ (λ k. rule-9 l (trainOf file k))) later))
 
-  judges-file : {rules : List Rule} {checks : List Check} → Judges rules checks → Judges (fileRules file ++ rules) (fileChecks file ++ checks)
+  pub judges-file : {rules : List Rule} {checks : List Check} → Judges rules checks → Judges (fileRules file ++ rules) (fileChecks file ++ checks)
   unfolding whole nothingAfter decided
   judges-file later =
       judges-first (leb-true (announcedEnd file) (length file), le-leb (announcedEnd file) (length file))
@@ -176,6 +175,28 @@ module _ (file : List ℕ) where
       times-number =
           answers-by (λ o. cond (eqb (orZero o) 0) (written times 0 (runTimes (lineOf file) (trainOf file k))) times)
           (judges-run-call (length speeds) (length times))
+
+-- ---- what the sheet program prints
+
+module _ (file : List ℕ) where
+  -- the text of a file's sheet
+  abbrev sheet : List ℕ
+  sheet = header ++ joined (lineOfTrain file) (trainCount file)
+
+  pub text-number : AnswersBy (fileChecks file) refusalText sheet (sheetText file)
+  unfolding refusal fileRefusal sheetText
+  text-number = answers-by (λ o. cond (eqb (orZero o) 0) sheet (refusalText (orZero o))) (judges-call file)
+
+  -- above the bound 2 comes first
+  pub program-number : AnswersBy (check 2 (length file ≤ mostInput) ∷ fileChecks file) refusalText sheet (programText file)
+  unfolding programText
+  program-number = go (leb (length file) mostInput) refl
+    where
+      go :
+          (b : Bool) → leb (length file) mostInput ≡ b →
+          AnswersBy (check 2 (length file ≤ mostInput) ∷ fileChecks file) refusalText sheet (cond b (sheetText file) (refusalText 2))
+      go true e = (λ broken. absurd (broken (leb-true (length file) mostInput e)), λ kept. text-number)
+      go false e = (λ broken. refl, λ kept. absurd (false≢true (sym e ∙ le-leb (length file) mostInput kept)))
 
 -- ---- the calls on a sheet
 

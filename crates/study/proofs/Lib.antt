@@ -1,3 +1,4 @@
 pub mod Adding
 pub mod Through
 pub mod Texts
+pub mod Numbers
