@@ -18,7 +18,7 @@ use Rattle.rules.specs.Admitted.{Parallel, Admitted}
 use Rattle.rules.specs.Calls.{HoldAnswer, held, written, trainRefusal, runRefusal}
 use Rattle.rules.specs.Meaning.{IsWritten}
 use Rattle.rules.proofs.Count.{and-left, and-right, length-row}
-use Rattle.rules.proofs.Calls.{written-is}
+use Rattle.rules.proofs.Calls.{written-is, lent-written}
 use Rattle.rules.proofs.Written.{written-long}
 use Rattle.rules.proofs.Accepted.{on-admitted}
 use Rattle.run.specs.Calls.{runRefusalOn, speedsOn, timesOn}
@@ -72,9 +72,9 @@ module _ (l : Line) (t : Train) (same : Parallel l t) (speeds times : List ℕ) 
   run-done {r} {speeds′} {times′} e z p q =
       let n : runRefusalOn l t (length speeds) (length times) ≡ 0 = sym e ∙ z in
       let ok = accepted-on l t (length speeds) (length times) n in
-      let s : speeds′ ≡ written speeds 0 (row (runAt l t) (l .points)) = rw (eq-eqb (runRefusalOn l t (length speeds) (length times)) 0 n) at p in
+      let s : speeds′ ≡ written speeds 0 (row (runAt l t) (l .points)) = p ∙ rw n (lent-written _ speeds) in
       let m : times′ ≡ written times 0 (row (arrival l t (row (runAt l t) (l .points))) (l .points)) =
-      rw (eq-eqb (runRefusalOn l t (length speeds) (length times)) 0 n) at q in (
+      q ∙ rw n (lent-written _ times) in (
         on-admitted l t (ok .0) same,
         (
           rw (written-long speeds (row (runAt l t) (l .points)) s (rw length-row (ok .1))) (ok .1),

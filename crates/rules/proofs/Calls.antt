@@ -13,7 +13,7 @@ use Rattle.rules.specs.File.{recordAt, recordEnd, recordSize, recordByte
 use Rattle.rules.specs.Line.{lineOf, trainOf}
 use Rattle.rules.specs.Run.{runRow}
 use Rattle.rules.specs.Time.{runTimes}
-use Rattle.rules.specs.Calls.{written, RecordPlace, recordPlace, trainRefusal, trainRecord, runRefusal, speedsAfter, timesAfter}
+use Rattle.rules.specs.Calls.{written, lentAfter, RecordPlace, recordPlace, trainRefusal, trainRecord, runRefusal, speedsAfter, timesAfter}
 use Rattle.rules.specs.Meaning.{IsWritten}
 use Rattle.rules.proofs.File.{record-within}
 use Rattle.rules.proofs.Accepted.{train-accepted, file-there}
@@ -83,15 +83,24 @@ written-is buffer at values h =
     shifted i = let g : entry (take at buffer ++ (values ++ rest)) (length (take at buffer) + i) ≡ entry (values ++ rest) i =
         getD-append-add (take at buffer) (values ++ rest) i 0 in rw front at g
 
+module _ (values buffer : List ℕ) where
+  pub lent-written : lentAfter 0 values buffer ≡ written buffer 0 values
+  unfolding lentAfter
+  lent-written = refl
+
+  pub lent-kept : {number : ℕ} → (number ≡ 0 → ⊥) → lentAfter number values buffer ≡ buffer
+  unfolding lentAfter
+  lent-kept {number} h = rw (ne-eqb number 0 h)
+
 module _ (file : List ℕ) (k : ℕ) (speeds times : List ℕ) where
   pub run-writes :
       runRefusal file k (length speeds) (length times) ≡ 0 →
       (speedsAfter file k speeds times ≡ written speeds 0 (runRow (lineOf file) (trainOf file k)))
       × (timesAfter file k speeds times ≡ written times 0 (runTimes (lineOf file) (trainOf file k)))
   unfolding speedsAfter timesAfter
-  run-writes z = let e = eq-eqb (runRefusal file k (length speeds) (length times)) 0 z in (rw e, rw e)
+  run-writes z = rw z (lent-written _ speeds, lent-written _ times)
 
   pub run-leaves : (runRefusal file k (length speeds) (length times) ≡ 0 → ⊥) → (speedsAfter file k speeds times ≡ speeds) ×
       (timesAfter file k speeds times ≡ times)
   unfolding speedsAfter timesAfter
-  run-leaves h = let e = ne-eqb (runRefusal file k (length speeds) (length times)) 0 h in (rw e, rw e)
+  run-leaves h = (lent-kept _ speeds h, lent-kept _ times h)

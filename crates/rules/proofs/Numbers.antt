@@ -17,7 +17,7 @@ use Rattle.rules.specs.Hold.{Hold, emptyHold, holdOf}
 use Rattle.rules.specs.Sheet.{Sheet, fresh}
 use Rattle.rules.specs.Refusal.{Rule, rule, firstBroken, refusal, whole, nothingAfter, decided, lineRules, everyTrainRules, fileRules}
 use Rattle.rules.specs.Refusal.{rulesOn, trainThere, trainRules, buffersLong, runRules, countRule, roomRule, holdRule}
-use Rattle.rules.specs.Calls.{fileRefusal, trainRefusal, trainRecord, RecordPlace, recordPlace, runRefusal, speedsAfter, timesAfter, written}
+use Rattle.rules.specs.Calls.{fileRefusal, trainRefusal, trainRecord, RecordPlace, recordPlace, runRefusal, speedsAfter, timesAfter, written, lentAfter}
 use Rattle.rules.specs.Calls.{HoldAnswer, held, Opening, opened, accept, refuse, addition, added}
 use Rattle.rules.specs.Text.{header, joined, refusalText, lineOfTrain, sheetText, mostInput, programText}
 use Rattle.rules.specs.Numbers.{Check, check, AnswersBy, lineChecks, trainChecks, EveryTrain, fileChecks, checksOn, trainCallChecks}
@@ -62,7 +62,7 @@ module _ {A : Type 0} (answer : Option ℕ → A) where
 every-kept : (n : ℕ) (test : ℕ → Bool) (Kept : ℕ → Type 0) → ((k : ℕ) → (test k ≡ true) ↔ Kept k) → (every n test ≡ true) ↔ ((k : ℕ) → k < n → Kept k)
 every-kept n test Kept tied = (λ e k l. tied k .0 (every-at test n e k l), λ h. every-all test n (λ k l. tied k .1 (h k l)))
 
-both-kept : {a b : Bool} {P Q : Type 0} → (a ≡ true) ↔ P → (b ≡ true) ↔ Q → ((a and b) ≡ true) ↔ (P × Q)
+pub both-kept : {a b : Bool} {P Q : Type 0} → (a ≡ true) ↔ P → (b ≡ true) ↔ Q → ((a and b) ≡ true) ↔ (P × Q)
 both-kept f g = (λ e. (f .0 (and-left _ _ e), g .0 (and-right _ _ e)), λ h. and-both (f .1 (h .0)) (g .1 (h .1)))
 
 -- ---- the rules of the file
@@ -163,17 +163,17 @@ module _ (file : List ℕ) where
       pub speeds-number :
           AnswersBy (runCallChecks file k (length speeds) (length times)) (λ n. speeds) (written speeds 0 (runRow (lineOf file) (trainOf file k)))
           (speedsAfter file k speeds times)
-      unfolding refusal runRefusal speedsAfter
+      unfolding refusal runRefusal lentAfter speedsAfter
       speeds-number =
-          answers-by (λ o. cond (eqb (orZero o) 0) (written speeds 0 (runRow (lineOf file) (trainOf file k))) speeds)
+          answers-by (λ o. lentAfter (orZero o) (runRow (lineOf file) (trainOf file k)) speeds)
           (judges-run-call (length speeds) (length times))
 
       pub times-number :
           AnswersBy (runCallChecks file k (length speeds) (length times)) (λ n. times) (written times 0 (runTimes (lineOf file) (trainOf file k)))
           (timesAfter file k speeds times)
-      unfolding refusal runRefusal timesAfter
+      unfolding refusal runRefusal lentAfter timesAfter
       times-number =
-          answers-by (λ o. cond (eqb (orZero o) 0) (written times 0 (runTimes (lineOf file) (trainOf file k))) times)
+          answers-by (λ o. lentAfter (orZero o) (runTimes (lineOf file) (trainOf file k)) times)
           (judges-run-call (length speeds) (length times))
 
 -- ---- what the sheet program prints

@@ -17,6 +17,10 @@ use Rattle.rules.specs.Refusal.{refusal, firstBroken, fileRules, trainRu
 unfoldable pub written : List ℕ → ℕ → List ℕ → List ℕ
 written buffer at values = take at buffer ++ (values ++ drop (at + length values) buffer)
 
+-- a lent buffer after a call with this number of refusal, or 0: it begins with the values; on a refusal every value is kept
+unfoldable pub lentAfter : ℕ → List ℕ → List ℕ → List ℕ
+lentAfter number values buffer = cond (eqb number 0) (written buffer 0 values) buffer
+
 -- ---- file calls: 0, or the number of refusal
 
 unfoldable pub fileRefusal : List ℕ → ℕ
@@ -46,12 +50,10 @@ runRefusal file k speeds times = refusal (runRules file k speeds times)
 
 -- the lent buffers after the run call and the hold call: the first P entries are the run's; on a refusal every value is kept
 unfoldable pub speedsAfter : List ℕ → ℕ → List ℕ → List ℕ → List ℕ
-speedsAfter file k speeds times =
-    cond (eqb (runRefusal file k (length speeds) (length times)) 0) (written speeds 0 (runRow (lineOf file) (trainOf file k))) speeds
+speedsAfter file k speeds times = lentAfter (runRefusal file k (length speeds) (length times)) (runRow (lineOf file) (trainOf file k)) speeds
 
 unfoldable pub timesAfter : List ℕ → ℕ → List ℕ → List ℕ → List ℕ
-timesAfter file k speeds times =
-    cond (eqb (runRefusal file k (length speeds) (length times)) 0) (written times 0 (runTimes (lineOf file) (trainOf file k))) times
+timesAfter file k speeds times = lentAfter (runRefusal file k (length speeds) (length times)) (runTimes (lineOf file) (trainOf file k)) times
 
 -- ---- the hold call: the hold record and the number 0, or the number of refusal and a record of no blocks
 

@@ -6,7 +6,7 @@ use mathlib.Core.Path.{_≡_, refl, sym, ap, _∙_, subst}
 use lib.ListN.{length, take}
 use lib.Seq.{take-at}
 use lib.Dec.{eqb}
-use borrow.Author.Tests.{eq-eqb, ne-eqb, le-leb, lt-leb}
+use borrow.Author.Tests.{le-leb, lt-leb}
 use Rattle.rules.specs.Count.{_and_, row}
 use Rattle.rules.specs.File.{pointCount}
 use Rattle.rules.specs.Line.{Line, Train, lineOf, trainOf}
@@ -18,7 +18,7 @@ use Rattle.rules.specs.Admitted.{Parallel, Admitted}
 use Rattle.rules.proofs.Count.{length-row}
 use Rattle.rules.proofs.Refusal.{refusal-none, refusal-cons, append-refused, append-kept}
 use Rattle.rules.proofs.Accepted.{on-positive, on-kept, run-refused, run-by-buffers, train-accepted, admitted}
-use Rattle.rules.proofs.Calls.{run-leaves}
+use Rattle.rules.proofs.Calls.{lent-written, lent-kept, run-leaves}
 use Rattle.rules.proofs.Time.{fastest}
 use Rattle.values.specs.declared.decoded.Line as decodedLine
 use Rattle.values.specs.declared.decoded.Train as decodedTrain
@@ -63,18 +63,14 @@ module _ (l : Line) (t : Train) where
     pub buffers-kept : {r : ℕ} → r ≡ runRefusalOn l t (length speeds) (length times) → (r ≡ 0 → ⊥) → (speeds ≡ speedsOn l t speeds times) ×
         (times ≡ timesOn l t speeds times)
     unfolding speedsOn timesOn
-    buffers-kept e h =
-        let q = ne-eqb (runRefusalOn l t (length speeds) (length times)) 0 (λ z. h (e ∙ z)) in
-        (rw q, rw q)
+    buffers-kept e h = (sym (lent-kept _ speeds (λ z. h (e ∙ z))), sym (lent-kept _ times (λ z. h (e ∙ z))))
 
     pub buffers-written :
         {speeds′ times′ : List ℕ} → 0 ≡ runRefusalOn l t (length speeds) (length times) → speeds′ ≡ written speeds 0 (runRow l t) → times′ ≡
         written times 0 (runTimes l t) →
         (speeds′ ≡ speedsOn l t speeds times) × (times′ ≡ timesOn l t speeds times)
     unfolding speedsOn timesOn
-    buffers-written e p q =
-        let z = eq-eqb (runRefusalOn l t (length speeds) (length times)) 0 (sym e) in
-        (rw (z, p), rw (z, q))
+    buffers-written e p q = rw (← e) (p ∙ sym (lent-written _ speeds), q ∙ sym (lent-written _ times))
 
   -- the first P entries are the run and its arrivals
   pub first-points : Admitted l t → (speeds times : List ℕ) {speeds′ times′ : List ℕ} → speeds′ ≡ written speeds 0 (runRow l t) → times′ ≡

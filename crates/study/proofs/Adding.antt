@@ -14,7 +14,7 @@ use Rattle.rules.specs.Line.{Line, Train}
 use Rattle.rules.specs.Run.{runRow}
 use Rattle.rules.specs.Time.{arrivals, runTimes}
 use Rattle.rules.proofs.Accepted.{on-kept}
-use Rattle.rules.proofs.Calls.{written-is}
+use Rattle.rules.proofs.Calls.{written-is, lent-written}
 use Rattle.rules.proofs.Count.{length-row}
 use Rattle.rules.proofs.Written.{written-long}
 use Rattle.run.specs.Calls.{runRefusalOn, speedsOn, timesOn}
@@ -44,11 +44,11 @@ module _
   pub speeds-long : {s : List ℕ} → s ≡ speedsOn l t′ speeds times → length s ≡ length speeds
   unfolding speedsOn
   speeds-long f =
-      written-long speeds (runRow l t) (f ∙ rw (eq-eqb (runRefusalOn l t′ (length speeds) (length times)) 0 not-refused, e)) (rw (length-speeds l t) p)
+      written-long speeds (runRow l t) (f ∙ rw (not-refused, e) (lent-written _ speeds)) (rw (length-speeds l t) p)
 
   times-taken : {s : List ℕ} → s ≡ timesOn l t′ speeds times → s ≡ written times 0 (runTimes l t)
   unfolding timesOn
-  times-taken f = f ∙ rw (eq-eqb (runRefusalOn l t′ (length speeds) (length times)) 0 not-refused, e)
+  times-taken f = f ∙ rw (not-refused, e) (lent-written _ times)
 
   pub times-long : {s : List ℕ} → s ≡ timesOn l t′ speeds times → length s ≡ length times
   times-long f = written-long times (runTimes l t) (times-taken f) (rw (length-times l t) q)

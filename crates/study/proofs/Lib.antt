@@ -1,4 +1,4 @@
 pub mod Adding
 pub mod Through
-pub mod Texts
+pub mod Least
 pub mod Numbers

@@ -1,43 +1,37 @@
 -- The trains of an accepted file, one after the other. Assumes nothing.
-use Prim.Native.Nat.{ℕ, suc, _+_, _≤_, _<_, min}
+use Prim.Native.Nat.{ℕ, suc, _+_, _≤_, _<_}
 use mathlib.Core.List.{List}
-use mathlib.Core.Path.{_≡_, refl, sym, ap, _∙_}
+use mathlib.Core.Path.{_≡_, sym, ap, _∙_}
 use native.Mathlib.Numerals.{add-one}
 use native.Mathlib.Omega.{arith}
-use lib.ListN.{length, drop, set, replicate, getD-replicate}
+use lib.ListN.{length}
 use Rattle.rules.specs.Admitted.{Admitted}
-use Rattle.rules.specs.Calls.{Opening, Addition, opened, added, fileRefusal}
-use Rattle.rules.specs.Count.{entry, padded}
+use Rattle.rules.specs.Calls.{Opening, Addition, written, opened, added, fileRefusal}
+use Rattle.rules.specs.Count.{row}
 use Rattle.rules.specs.File.{trainCount, trainsAt, recordAt, recordSize, bandCount, stopCount}
 use Rattle.rules.specs.Hold.{Hold, holdOf}
 use Rattle.rules.specs.Line.{Line, Train, lineOf, trainAt, trainOf}
 use Rattle.rules.specs.Sheet.{Sheet, fresh}
-use Rattle.rules.specs.Text.{startOf, blockOf, runningTime}
+use Rattle.rules.specs.Text.{runningTime}
 use Rattle.rules.proofs.Accepted.{file-there, line-sizes, admitted}
 use Rattle.rules.proofs.Answers.{Rest, rest-first, rest-here, rest-next}
-use Rattle.rules.proofs.Count.{within-holds}
+use Rattle.rules.proofs.Count.{within-holds, length-row}
 use Rattle.rules.proofs.Demand.{opened-fresh}
 use Rattle.rules.proofs.File.{length-words, partFrom, part-is, part-next, part-inside, record-first, train-drop, trains-within}
-use Rattle.rules.proofs.Fill.{Filled, fill-none, fill-up, fill-padded}
+use Rattle.rules.proofs.Fill.{Filled, fill-done}
+use Rattle.rules.proofs.Written.{written-front}
 use Rattle.values.specs.declared.decoded.Line as decoded
 use Rattle.values.specs.Values.{asLine}
 use Rattle.reading.specs.Decoded.{decodedLine}
 use Rattle.line.proofs.Opening.{line-stands}
-use Rattle.study.specs.declared.rows.Rows.{Rows}
-use Rattle.study.specs.Rows.{Decodes, lastArrival, startAt, blockAt, fileRows}
-
-abbrev zeros : List ℕ
-zeros = replicate 64 0
+use Rattle.study.specs.Rows.{Decodes, lastArrival, answerTo}
 
 -- the first k trains are added
-pub record Through (file : List ℕ) (s : Sheet) (starts runs blocks : List ℕ) (at k : ℕ) : Type 0 where
+pub record Through (file : List ℕ) (s : Sheet) (at k : ℕ) : Type 0 where
   pub few : k ≤ trainCount file
   pub place : at ≡ recordAt file k
   pub within : at ≤ length file
   pub rest : Rest file k s
-  pub start : Filled (startAt file) 0 k zeros starts
-  pub run : Filled (runningTime file) 0 k zeros runs
-  pub block : Filled (blockAt file) 0 k zeros blocks
 
 module _ (file : List ℕ) (ok : fileRefusal file ≡ 0) where
   pub few-trains : trainCount file ≤ 64
@@ -62,73 +56,59 @@ module _ (file : List ℕ) (ok : fileRefusal file ≡ 0) where
         let count = block-count in
         rw (e, opened-fresh (line .«block_count») (within-holds 1 32 _ (omega (arith, sizes .blocks-least)) (omega (arith, sizes .blocks-most))), count)
 
-  pub through-first : {at : ℕ} {s : Sheet} → s ≡ fresh (length (lineOf file .blockStarts)) → at ≡ trainsAt file → Through file s zeros zeros zeros at 0
+  pub through-first : {at : ℕ} {s : Sheet} → s ≡ fresh (length (lineOf file .blockStarts)) → at ≡ trainsAt file → Through file s at 0
   through-first e p =
       record {
         few = omega arith;
         place = p ∙ sym (record-first file);
         within = omega (arith, trains-within file, file-there file ok);
         rest = rw e (rest-first file);
-        start = fill-none _ 0 _;
-        run = fill-none _ 0 _;
-        block = fill-none _ 0 _;
       }
 
-  module _ {starts runs blocks : List ℕ} {s : Sheet} {at k : ℕ} (done : Through file s starts runs blocks at k) where
-    -- the next train
-    module _ (more : k < trainCount file) where
-      train-next : trainAt (partFrom file at) 0 ≡ trainOf file k
-      train-next =
-          ap (λ (bytes : List ℕ). trainAt bytes 0) (part-is file at) ∙ train-drop file at ∙ ap (trainAt file) (done .place)
+  -- the next train
+  module _ {s : Sheet} {at k : ℕ} (done : Through file s at k) (more : k < trainCount file) where
+    train-next : trainAt (partFrom file at) 0 ≡ trainOf file k
+    train-next =
+        ap (λ (bytes : List ℕ). trainAt bytes 0) (part-is file at) ∙ train-drop file at ∙ ap (trainAt file) (done .place)
 
-      module _ {line : decoded.Line} (same : line ≡ decodedLine file) where
-        pub next-admitted : Admitted (asLine line) (trainAt (partFrom file at) 0)
-        next-admitted = rw (line-is same, train-next) (admitted file ok k more)
+    module _ {line : decoded.Line} (same : line ≡ decodedLine file) where
+      pub next-admitted : Admitted (asLine line) (trainAt (partFrom file at) 0)
+      next-admitted = rw (line-is same, train-next) (admitted file ok k more)
 
-        pub next-decodes : Decodes (partFrom file at)
-        unfolding trainAt
-        next-decodes =
-            let r = next-admitted .rule3Train in
-            let a : bandCount (partFrom file at) 0 ≤ 8 = rw length-words at (r .bands-most) in
-            let b : stopCount (partFrom file at) 0 ≤ 32 = rw length-words at (r .stops-most) in
-            record { bands = omega arith; stops = omega arith }
+      pub next-decodes : Decodes (partFrom file at)
+      unfolding trainAt
+      next-decodes =
+          let r = next-admitted .rule3Train in
+          let a : bandCount (partFrom file at) 0 ≤ 8 = rw length-words at (r .bands-most) in
+          let b : stopCount (partFrom file at) 0 ≤ 32 = rw length-words at (r .stops-most) in
+          record { bands = omega arith; stops = omega arith }
 
-        -- it is added
-        pub through-next :
-            {h : Hold} {x : Addition} {start run block size k′ : ℕ} →
-            h ≡ holdOf (asLine line) (trainAt (partFrom file at) 0) → run ≡ lastArrival (asLine line) (trainAt (partFrom file at) 0) →
-            x ≡ added s h → start ≡ startOf (x .answer) → block ≡ blockOf (x .answer) → size ≡ recordSize (partFrom file at) 0 → k′ ≡ k + 1 →
-            Through file (x .sheet) (set starts k start) (set runs k run) (set blocks k block) (at + size) k′
-        unfolding runningTime
-        through-next {h} {x} {start} {run} {block} {size} {k′} eh er ex es eb ez ek =
+      pub next-run : {run : ℕ} → run ≡ lastArrival (asLine line) (trainAt (partFrom file at) 0) → run ≡ runningTime file k
+      unfolding runningTime
+      next-run e = e ∙ rw (line-is same, train-next)
+
+      -- it is added
+      module _ {h : Hold} {x : Addition} (eh : h ≡ holdOf (asLine line) (trainAt (partFrom file at) 0)) (ex : x ≡ added s h) where
+        sum : x ≡ added s (holdOf (lineOf file) (trainOf file k))
+        sum = ex ∙ ap (added s) (eh ∙ rw (line-is same, train-next))
+
+        pub next-answer : x .answer ≡ answerTo file k
+        next-answer = rw sum (sym (rest-here file (done .rest) more))
+
+        pub through-next : {size k′ : ℕ} → size ≡ recordSize (partFrom file at) 0 → k′ ≡ k + 1 → Through file (x .sheet) (at + size) k′
+        through-next {size} {k′} ez ek =
             let next : k′ ≡ suc k = ek ∙ add-one k in
-            let hold : h ≡ holdOf (lineOf file) (trainOf file k) = eh ∙ rw (line-is same, train-next) in
-            let sum : x ≡ added s (holdOf (lineOf file) (trainOf file k)) = ex ∙ ap (added s) hold in
-            let here = rest-here file (done .rest) more in
             record {
               few = omega arith;
               place = rw ek (part-next file k at (done .place) ez);
               within = omega (arith, part-inside file k at (done .place) ez more, file-there file ok);
               rest = rw (next, sum) (rest-next file (done .rest) more);
-              start = fill-up (done .start) (omega arith) next (room more) (es ∙ rw sum (ap startOf (sym here)));
-              run = fill-up (done .run) (omega arith) next (room more) (er ∙ rw (line-is same, train-next));
-              block = fill-up (done .block) (omega arith) next (room more) (eb ∙ rw sum (ap blockOf (sym here)));
             }
-          where
-            room : k < trainCount file → k < 64
-            room m = omega (arith, few-trains)
 
-    -- all are added
-    pub rows-there : trainCount file ≤ k → _≡_ {A = Rows} (record { starts = starts; runs = runs; blocks = blocks }) (fileRows file)
-    rows-there all =
-        rw (
-          fill-padded (trainCount file) 64 (done .start) (whole all) refl nothing,
-          fill-padded (trainCount file) 64 (done .run) (whole all) refl nothing,
-          fill-padded (trainCount file) 64 (done .block) (whole all) refl nothing,
-        )
-      where
-        whole : trainCount file ≤ k → k ≡ min (trainCount file) 64
-        whole h = omega (arith, few-trains, done .few)
+-- ---- the columns
 
-        nothing : (i : ℕ) → i < 64 → entry zeros i ≡ 0
-        nothing i h = getD-replicate 64 i 0 0 h
+-- a slice into which all values are written
+pub column-written : (f : ℕ → ℕ) (n : ℕ) {k : ℕ} {s₀ s : List ℕ} → Filled f 0 k s₀ s → k ≡ n → n ≤ length s₀ → s ≡ written s₀ 0 (row f n)
+column-written f n {k} {s₀} {s} r e h =
+    let filled : Filled f 0 n s₀ s = rw e at r in
+    fill-done filled h ∙ sym (written-front s₀ (row f n) ∙ rw length-row)

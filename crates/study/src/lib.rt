@@ -1,92 +1,113 @@
-// A whole file in one call: the sheet of its trains as text, and what the sheet program prints.
-mod rows;
+// A whole file in one call: the columns of its sheet.
+mod train;
 
-use rows::Rows;
-use rows::rows_of;
-use text::WriteAnswer;
-use text::put_refusal;
-use text::put_sheet;
+use line::FileAnswer;
+use reading::record_size;
+use train::block_of;
+use train::start_of;
+use train::time_train;
 ghost use mathlib.Core.Path.{_≡_};
-ghost use Prim.Native.Nat.{_≤_};
+ghost use Prim.Native.Nat.{_≤_, min};
 ghost use lib.ListN.{length, take};
-ghost use Rattle.rules.specs.Count.{padded};
-ghost use Rattle.rules.specs.Text.{refusalText, sheetText, programText};
-ghost use Rattle.text.specs.Text.{writeAnswer, bytesAfter, rowsText, sheetRefusal};
-ghost use Rattle.study.specs.Study.{studyRefusal, NoneRefused};
+ghost use Rattle.rules.specs.Calls.{written, lentAfter, fileRefusal};
+ghost use Rattle.rules.specs.File.{trainCount};
+ghost use Rattle.line.specs.Answers.{openedFile};
+ghost use Rattle.study.specs.Rows.{startsOf, runsOf, blocksOf, rowsRefusal, rowsAnswer, LeastForFile};
 
-const MOST_INPUT: usize = 16384;
-
-// A text that always fits, and how many bytes it has; the places behind it are 0.
-pub struct ProgramText {
-    pub text: [u8; 2390],
-    pub bytes: usize,
+// How many trains the file has, 0 on a refusal.
+#[repr(C)]
+pub struct RowsAnswer {
+    pub number: u64,
+    pub trains: u64,
 }
 
-fn put_rows(rows: Rows, trains: usize, text: &mut [u8]) -> WriteAnswer
-    requires { ⌜ (trains ≤ length (rows .starts)) × (trains ≤ length (rows .runs)) × (trains ≤ length (rows .blocks)) ⌝ }
-    ensures { λ r. ⌜
-        r
-        ≡ writeAnswer (sheetRefusal (take trains (rows .starts)) (take trains (rows .runs)) (take trains (rows .blocks)) (length (now (text .entry))))
-        (rowsText (take trains (rows .starts)) (take trains (rows .runs)) (take trains (rows .blocks))) ⌝ }
-    ensures { λ _. ⌜
-        now (text .exit)
-        ≡ bytesAfter (sheetRefusal (take trains (rows .starts)) (take trains (rows .runs)) (take trains (rows .blocks)) (length (now (text .entry))))
-        (rowsText (take trains (rows .starts)) (take trains (rows .runs)) (take trains (rows .blocks))) (now (text .entry)) ⌝ }
+// How many places the shortest of three slices has.
+fn least_length(starts: &[u64], runs: &[u64], blocks: &[u64]) -> usize
+    ensures { λ r. ⌜ r ≡ min (length (now (starts .entry))) (min (length (now (runs .entry))) (length (now (blocks .entry)))) ⌝ }
 {
-    let starts = rows.starts;
-    let runs = rows.runs;
-    let blocks = rows.blocks;
-    put_sheet(text, &starts[..trains], &runs[..trains], &blocks[..trains])
+    lesser(starts.len(), lesser(runs.len(), blocks.len()))
 }
 
-// The sheet of a whole file as text: rules 1 to 9, then 11 where the text does not fit. A refusal leaves the lent bytes as they came.
-pub fn study(file: &[u8], text: &mut [u8]) -> WriteAnswer
+fn lesser(a: usize, b: usize) -> usize
+    ensures { λ r. ⌜ r ≡ min a b ⌝ }
+{
+    if a < b { a } else { b }
+}
+
+// Writes the columns of an accepted file.
+fn write_rows(
+    file: &[u8],
+    opened: FileAnswer,
+    starts: &mut [u64],
+    runs: &mut [u64],
+    blocks: &mut [u64],
+)
+    requires { ⌜ (fileRefusal (now file) ≡ 0) × (opened ≡ openedFile (now file)) ⌝ }
+    requires { ⌜
+        (trainCount (now file) ≤ length (now starts)) × (trainCount (now file) ≤ length (now runs)) × (trainCount (now file) ≤ length (now blocks)) ⌝ }
+    ensures { λ _. ⌜
+        (now (starts .exit) ≡ written (now (starts .entry)) 0 (startsOf (now (file .entry))))
+        × (now (runs .exit) ≡ written (now (runs .entry)) 0 (runsOf (now (file .entry))))
+        × (now (blocks .exit) ≡ written (now (blocks .entry)) 0 (blocksOf (now (file .entry)))) ⌝ }
+{
+    let line = opened.line;
+    let mut speeds = [0u32; 4096];
+    let mut times = [0u64; 4096];
+    let mut sheet = sheet::open_sheet(line.block_count as u64).sheet;
+    let mut at = opened.at;
+    let mut k = 0;
+    while k < opened.trains {
+        let timed = time_train(line, &file[at..], &mut speeds, &mut times);
+        let added = sheet::with_hold(sheet, timed.hold);
+        let answer = added.answer;
+        sheet = added.sheet;
+        starts[k] = start_of(answer);
+        runs[k] = timed.run;
+        blocks[k] = block_of(answer);
+        at += record_size(&file[at..]);
+        k += 1;
+    }
+}
+
+// The start, the running time and the block of each train of a file, in its order: rules 1 to 9, then 11 where a slice has fewer places than
+// the file has trains. A refusal leaves the slices as they came, and places behind the trains keep their values.
+pub fn rows(file: &[u8], starts: &mut [u64], runs: &mut [u64], blocks: &mut [u64]) -> RowsAnswer
     ensures answer { λ r. ⌜
-        r ≡ writeAnswer (studyRefusal (now (file .entry)) (length (now (text .entry)))) (sheetText (now (file .entry))) ⌝ }
-    ensures text { λ r. ⌜
-        now (text .exit)
-        ≡ bytesAfter (studyRefusal (now (file .entry)) (length (now (text .entry)))) (sheetText (now (file .entry))) (now (text .entry)) ⌝ }
-    ensures added { λ r. ⌜ (r .number ≡ 0 → NoneRefused (now (file .entry))) ⌝ }
+        r
+        ≡ rowsAnswer
+        (rowsRefusal (now (file .entry)) (length (now (starts .entry))) (length (now (runs .entry))) (length (now (blocks .entry))))
+        (trainCount (now (file .entry))) ⌝ }
+    ensures starts { λ r. ⌜
+        now (starts .exit)
+        ≡ lentAfter (rowsRefusal (now (file .entry)) (length (now (starts .entry))) (length (now (runs .entry))) (length (now (blocks .entry))))
+        (startsOf (now (file .entry))) (now (starts .entry)) ⌝ }
+    ensures runs { λ r. ⌜
+        now (runs .exit)
+        ≡ lentAfter (rowsRefusal (now (file .entry)) (length (now (starts .entry))) (length (now (runs .entry))) (length (now (blocks .entry))))
+        (runsOf (now (file .entry))) (now (runs .entry)) ⌝ }
+    ensures blocks { λ r. ⌜
+        now (blocks .exit)
+        ≡ lentAfter (rowsRefusal (now (file .entry)) (length (now (starts .entry))) (length (now (runs .entry))) (length (now (blocks .entry))))
+        (blocksOf (now (file .entry))) (now (blocks .entry)) ⌝ }
+    ensures least { λ r. ⌜ (r .number ≡ 0 → LeastForFile (now (file .entry)) (take (trainCount (now (file .entry))) (now (starts .exit)))) ⌝ }
 {
     let opened = line::open_file(file);
     if opened.number != 0 {
-        return WriteAnswer {
+        return RowsAnswer {
             number: opened.number,
-            bytes: 0,
+            trains: 0,
         };
     }
-    let rows = rows_of(file, opened);
-    put_rows(rows, opened.trains, text)
-}
-
-fn refusal_printed(number: u64) -> ProgramText
-    requires { ⌜ number ≤ 9 ⌝ }
-    ensures { λ r. ⌜ (r .text ≡ padded 2390 (refusalText number)) × (r .bytes ≡ length (refusalText number)) ⌝ }
-{
-    let mut text = [0u8; 2390];
-    let answer = put_refusal(&mut text, number);
-    ProgramText {
-        text,
-        bytes: answer.bytes as usize,
+    let trains = opened.trains;
+    if least_length(starts, runs, blocks) < trains {
+        return RowsAnswer {
+            number: 11,
+            trains: 0,
+        };
     }
-}
-
-// What the sheet program prints of its input, whatever that is: above 16,384 bytes it is refused by 2 with no rule checked.
-pub fn program_text(input: &[u8]) -> ProgramText
-    ensures text { λ r. ⌜ r .text ≡ padded 2390 (programText (now (input .entry))) ⌝ }
-    ensures bytes { λ r. ⌜ (r .bytes ≡ length (programText (now (input .entry)))) × (r .bytes ≤ 2390) ⌝ }
-    ensures places { λ r. ⌜ length (r .text) ≡ 2390 ⌝ }
-{
-    if MOST_INPUT < input.len() {
-        return refusal_printed(2);
-    }
-    let mut text = [0u8; 2390];
-    let answer = study(input, &mut text);
-    if answer.number != 0 {
-        return refusal_printed(answer.number);
-    }
-    ProgramText {
-        text,
-        bytes: answer.bytes as usize,
+    write_rows(file, opened, starts, runs, blocks);
+    RowsAnswer {
+        number: 0,
+        trains: trains as u64,
     }
 }

@@ -7,9 +7,10 @@ use native.Mathlib.Omega.{arith}
 use lib.Dec.{leb}
 use lib.ListN.{length}
 use borrow.Author.Tests.{leb-true, le-leb, lt-leb, ne-eqb}
-use Rattle.rules.specs.Calls.{written}
+use Rattle.rules.specs.Calls.{written, lentAfter}
+use Rattle.rules.proofs.Calls.{lent-written, lent-kept}
 use Rattle.rules.proofs.Refusal.{refusal-none, head-broken, head-kept, head-accepted}
-use Rattle.text.specs.Text.{writeAnswer, bytesAfter, Placed, roomRefusal}
+use Rattle.text.specs.Text.{writeAnswer, Placed, roomRefusal}
 
 -- ---- a call with this number of refusal
 
@@ -18,30 +19,21 @@ module _ (text : List ℕ) where
   unfolding writeAnswer
   answer-written = refl
 
-  pub bytes-written : (buffer : List ℕ) → bytesAfter 0 text buffer ≡ written buffer 0 text
-  unfolding bytesAfter
-  bytes-written buffer = refl
-
-  module _ {number : ℕ} (h : number ≡ 0 → ⊥) where
-    pub answer-refused : writeAnswer number text ≡ record { number = number; bytes = 0 }
-    unfolding writeAnswer
-    answer-refused = rw (ne-eqb number 0 h)
-
-    pub bytes-kept : (buffer : List ℕ) → bytesAfter number text buffer ≡ buffer
-    unfolding bytesAfter
-    bytes-kept buffer = rw (ne-eqb number 0 h)
+  pub answer-refused : {number : ℕ} → (number ≡ 0 → ⊥) → writeAnswer number text ≡ record { number = number; bytes = 0 }
+  unfolding writeAnswer
+  answer-refused {number} h = rw (ne-eqb number 0 h)
 
 module _ (text buffer : List ℕ) {number : ℕ} where
   pub refused-by :
       {found : ℕ} → found ≡ number → (found ≡ 0 → ⊥) →
-      (record { number = found; bytes = 0 } ≡ writeAnswer number text) × (buffer ≡ bytesAfter number text buffer)
-  refused-by e h = rw (sym e) (sym (answer-refused text h), sym (bytes-kept text h buffer))
+      (record { number = found; bytes = 0 } ≡ writeAnswer number text) × (buffer ≡ lentAfter number text buffer)
+  refused-by e h = rw (sym e) (sym (answer-refused text h), sym (lent-kept text buffer h))
 
   pub wrote-all :
       {past : ℕ} {after : List ℕ} → number ≡ 0 → Placed buffer 0 text past after →
-      (record { number = 0; bytes = past } ≡ writeAnswer number text) × (after ≡ bytesAfter number text buffer)
+      (record { number = 0; bytes = past } ≡ writeAnswer number text) × (after ≡ lentAfter number text buffer)
   wrote-all z p =
-      rw z (rw (p .past-text, zero-add) (sym (answer-written text)), p .bytes ∙ sym (bytes-written text buffer))
+      rw z (rw (p .past-text, zero-add) (sym (answer-written text)), p .bytes ∙ sym (lent-written text buffer))
 
 -- ---- the number of a text
 

@@ -17,10 +17,6 @@ use Rattle.text.specs.declared.WriteAnswer.{WriteAnswer}
 unfoldable pub writeAnswer : ℕ → List ℕ → WriteAnswer
 writeAnswer number text = cond (eqb number 0) (record { number = 0; bytes = length text }) (record { number = number; bytes = 0 })
 
--- the lent bytes then: they begin with the text; on a refusal every value is kept
-unfoldable pub bytesAfter : ℕ → List ℕ → List ℕ → List ℕ
-bytesAfter number text buffer = cond (eqb number 0) (written buffer 0 text) buffer
-
 -- the text stands in the buffer from place `at` on, and `past` is the place behind it
 pub record Placed (buffer : List ℕ) (at : ℕ) (text : List ℕ) (past : ℕ) (after : List ℕ) : Type 0 where
   pub past-text : past ≡ at + length text

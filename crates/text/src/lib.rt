@@ -13,8 +13,9 @@ use refusals::TOO_FEW;
 use refusals::sheet_refusal;
 ghost use mathlib.Core.Path.{_≡_};
 ghost use lib.ListN.{length};
+ghost use Rattle.rules.specs.Calls.{lentAfter};
 ghost use Rattle.rules.specs.Text.{refusalText};
-ghost use Rattle.text.specs.Text.{writeAnswer, bytesAfter, rowsText, roomRefusal, sheetRefusal};
+ghost use Rattle.text.specs.Text.{writeAnswer, rowsText, roomRefusal, sheetRefusal};
 
 // The number 0 and how many bytes are written, or the number of refusal and 0.
 #[repr(C)]
@@ -31,7 +32,7 @@ pub fn put_sheet(buf: &mut [u8], starts: &[u64], runs: &[u64], blocks: &[u64]) -
         (rowsText (now (starts .entry)) (now (runs .entry)) (now (blocks .entry))) ⌝ }
     ensures bytes { λ _. ⌜
         now (buf .exit)
-        ≡ bytesAfter (sheetRefusal (now (starts .entry)) (now (runs .entry)) (now (blocks .entry)) (length (now (buf .entry))))
+        ≡ lentAfter (sheetRefusal (now (starts .entry)) (now (runs .entry)) (now (blocks .entry)) (length (now (buf .entry))))
         (rowsText (now (starts .entry)) (now (runs .entry)) (now (blocks .entry))) (now (buf .entry)) ⌝ }
 {
     let number = sheet_refusal(starts, runs, blocks, buf.len());
@@ -50,7 +51,7 @@ pub fn put_sheet(buf: &mut [u8], starts: &[u64], runs: &[u64], blocks: &[u64]) -
 pub fn put_refusal(buf: &mut [u8], number: u64) -> WriteAnswer
     ensures answer { λ r. ⌜ r ≡ writeAnswer (roomRefusal (refusalText number) (length (now (buf .entry)))) (refusalText number) ⌝ }
     ensures bytes { λ _. ⌜
-        now (buf .exit) ≡ bytesAfter (roomRefusal (refusalText number) (length (now (buf .entry)))) (refusalText number) (now (buf .entry)) ⌝ }
+        now (buf .exit) ≡ lentAfter (roomRefusal (refusalText number) (length (now (buf .entry)))) (refusalText number) (now (buf .entry)) ⌝ }
 {
     // the word, the digits and the line feed
     let text = 8 + decimal_length(number) + 1;

@@ -5,11 +5,11 @@ use Prim.Native.Nat.{ℕ}
 use Rattle.rules.specs.Count.{padded}
 use Rattle.rules.proofs.Count.{length-row}
 use Rattle.rules.proofs.Room.{program-most}
-use Rattle.study.specs.Study.{studyRefusal}
-use Rattle.study.proofs.Texts.{printed, counted, number-told, long-printed, refused-printed, sheet-printed}
+use Rattle.study_text.specs.Study.{studyRefusal}
+use Rattle.study_text.proofs.Texts.{printed, counted, number-told, long-printed, refused-printed, sheet-printed}
 use borrow.Author.Needs.{needs}
-use Rattle.study.proofs.program_text.Statement.{statement}
-use Rattle.study.proofs.program_text.Tie as tie
+use Rattle.study_text.proofs.program_text.Statement.{statement}
+use Rattle.study_text.proofs.program_text.Tie as tie
 
 -- the number that the study answers
 told : (c : tie.After-study) → c .study .result .number ≡ studyRefusal (c .before .before .before .before .args .input .now) (length {A = ℕ} (replicate 2390 0))

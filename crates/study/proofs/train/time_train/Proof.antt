@@ -5,8 +5,8 @@ use Rattle.values.specs.Values.{asLine, asTrain}
 use Rattle.reading.proofs.Decoding.{train-is}
 use Rattle.study.proofs.Adding.{hold-taken, speeds-long, times-long, last-arrival}
 use borrow.Author.Needs.{needs}
-use Rattle.study.proofs.rows.time_train.Statement.{statement}
-use Rattle.study.proofs.rows.time_train.Tie as tie
+use Rattle.study.proofs.train.time_train.Statement.{statement}
+use Rattle.study.proofs.train.time_train.Tie as tie
 
 abbrev held : tie.After-struct-known → tie.After-hold-train
 held c = c .before .before .before .before .before .before

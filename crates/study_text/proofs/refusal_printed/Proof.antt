@@ -1,9 +1,9 @@
 use Rattle.rules.specs.Text.{refusalText}
 use Rattle.rules.proofs.Room.{refusal-fits}
-use Rattle.study.proofs.Texts.{room-kept, printed, counted}
+use Rattle.study_text.proofs.Texts.{room-kept, printed, counted}
 use borrow.Author.Needs.{needs}
-use Rattle.study.proofs.refusal_printed.Statement.{statement}
-use Rattle.study.proofs.refusal_printed.Tie as tie
+use Rattle.study_text.proofs.refusal_printed.Statement.{statement}
+use Rattle.study_text.proofs.refusal_printed.Tie as tie
 
 slice-aggregate-put-refusal : tie.Need-slice-aggregate-put-refusal
 slice-aggregate-put-refusal c = search needs

@@ -1,31 +1,19 @@
-// The start, the running time and the block of each train of a file.
+// One train of a file: its hold record, its running time, and the start and block of an answer.
 use holds::HoldRecord;
-use line::FileAnswer;
 use reading::decode_train;
-use reading::record_size;
 use sheet::Answer;
-use sheet::Sheet;
 use values::Line;
 ghost use mathlib.Core.Path.{_≡_};
-ghost use Prim.Native.Nat.{_≤_, _<_};
+ghost use Prim.Native.Nat.{_≤_};
 ghost use lib.ListN.{length};
 ghost use Rattle.rules.specs.Admitted.{Admitted};
-ghost use Rattle.rules.specs.Calls.{fileRefusal};
 ghost use Rattle.rules.specs.Hold.{holdOf};
 ghost use Rattle.rules.specs.Line.{trainAt};
 ghost use Rattle.rules.specs.Text.{startOf, blockOf};
 ghost use Rattle.holds.specs.Values.{asHold};
 ghost use Rattle.values.specs.Values.{asLine};
-ghost use Rattle.line.specs.Answers.{openedFile};
 ghost use Rattle.sheet.specs.Values.{asAnswer};
-ghost use Rattle.study.specs.Rows.{Decodes, lastArrival, fileRows};
-
-// Of each train, in the file's order; the places behind them are 0.
-pub struct Rows {
-    pub starts: [u64; 64],
-    pub runs: [u64; 64],
-    pub blocks: [u64; 64],
-}
+ghost use Rattle.study.specs.Rows.{Decodes, lastArrival};
 
 // A train's hold record and its running time.
 pub(crate) struct Timed {
@@ -34,7 +22,7 @@ pub(crate) struct Timed {
 }
 
 // 0 of a refused addition, as in the rules.
-fn start_of(answer: Answer) -> u64
+pub(crate) fn start_of(answer: Answer) -> u64
     ensures { λ r. ⌜ r ≡ startOf (asAnswer answer) ⌝ }
 {
     match answer {
@@ -43,7 +31,7 @@ fn start_of(answer: Answer) -> u64
     }
 }
 
-fn block_of(answer: Answer) -> u64
+pub(crate) fn block_of(answer: Answer) -> u64
     ensures { λ r. ⌜ r ≡ blockOf (asAnswer answer) ⌝ }
 {
     match answer {
@@ -53,7 +41,7 @@ fn block_of(answer: Answer) -> u64
 }
 
 // Runs and holds the train whose record the bytes begin with.
-fn time_train(line: Line, bytes: &[u8], speeds: &mut [u32], times: &mut [u64]) -> Timed
+pub(crate) fn time_train(line: Line, bytes: &[u8], speeds: &mut [u32], times: &mut [u64]) -> Timed
     requires { ⌜ Admitted (asLine line) (trainAt (now bytes) 0) × Decodes (now bytes) ⌝ }
     requires { ⌜ (line .points ≤ length (now speeds)) × (line .points ≤ length (now times)) ⌝ }
     ensures { λ r. ⌜
@@ -67,37 +55,5 @@ fn time_train(line: Line, bytes: &[u8], speeds: &mut [u32], times: &mut [u64]) -
     Timed {
         hold,
         run: times[last],
-    }
-}
-
-// Of an accepted file.
-pub(crate) fn rows_of(file: &[u8], opened: FileAnswer) -> Rows
-    requires { ⌜ (fileRefusal (now file) ≡ 0) × (opened ≡ openedFile (now file)) ⌝ }
-    ensures { λ r. ⌜ r ≡ fileRows (now (file .entry)) ⌝ }
-{
-    let line = opened.line;
-    let mut speeds = [0u32; 4096];
-    let mut times = [0u64; 4096];
-    let mut starts = [0u64; 64];
-    let mut runs = [0u64; 64];
-    let mut blocks = [0u64; 64];
-    let mut sheet = sheet::open_sheet(line.block_count as u64).sheet;
-    let mut at = opened.at;
-    let mut k = 0;
-    while k < opened.trains {
-        let timed = time_train(line, &file[at..], &mut speeds, &mut times);
-        let added = sheet::with_hold(sheet, timed.hold);
-        let answer = added.answer;
-        sheet = added.sheet;
-        starts[k] = start_of(answer);
-        runs[k] = timed.run;
-        blocks[k] = block_of(answer);
-        at += record_size(&file[at..]);
-        k += 1;
-    }
-    Rows {
-        starts,
-        runs,
-        blocks,
     }
 }

@@ -10,27 +10,26 @@ use lib.ListN.{length, take, replicate, length-replicate, getD-replicate, List·
 use lib.Seq.{ext-getD, length-take-le, getD-take}
 use lib.Dec.{eqb}
 use borrow.Author.Tests.{le-leb, eqb-true}
-use Rattle.rules.specs.Calls.{written, fileRefusal}
+use Rattle.rules.specs.Calls.{written, lentAfter, fileRefusal}
 use Rattle.rules.specs.Count.{entry, row, padded}
-use Rattle.rules.specs.File.{AreBytes, trainCount}
+use Rattle.rules.specs.File.{trainCount}
 use Rattle.rules.specs.Meaning.{IsWritten}
 use Rattle.rules.specs.Refusal.{fileRules}
 use Rattle.rules.specs.Text.{refusalText, lineOfTrain, runningTime, sheetText, programText}
 use Rattle.rules.proofs.Accepted.{file-positive, file-most, line-sizes}
-use Rattle.rules.proofs.Calls.{written-is}
+use Rattle.rules.proofs.Calls.{written-is, lent-written}
 use Rattle.rules.proofs.Count.{length-row, entry-row}
-use Rattle.rules.proofs.File.{word-most}
-use Rattle.rules.proofs.Fill.{padded-within}
 use Rattle.rules.proofs.Refusal.{refusal-none, head-kept, append-refused, append-kept}
 use Rattle.rules.proofs.Room.{text-most}
-use Rattle.rules.proofs.Text.{file-answers, text-accepted, text-refused, program-long, program-whole}
+use Rattle.rules.proofs.Text.{text-accepted, text-refused, program-long, program-whole}
+use Rattle.rules.proofs.Written.{written-long}
 use Rattle.text.specs.declared.WriteAnswer.{WriteAnswer}
-use Rattle.text.specs.Text.{writeAnswer, bytesAfter, lineAt, rowsText, equalCounts, roomRefusal, sheetRefusal}
-use Rattle.text.proofs.Room.{answer-written, bytes-written}
+use Rattle.text.specs.Text.{writeAnswer, lineAt, rowsText, equalCounts, roomRefusal, sheetRefusal}
+use Rattle.text.proofs.Room.{answer-written}
 use Rattle.text.proofs.Rows.{counts-equal, rows-joined, counts-kept}
-use Rattle.study.specs.declared.rows.Rows.{Rows}
-use Rattle.study.specs.Rows.{startAt, blockAt, fileRows}
-use Rattle.study.specs.Study.{studyRefusal, NoneRefused}
+use Rattle.study.specs.Rows.{startAt, blockAt, startsOf, runsOf, blocksOf, rowsRefusal, LeastForFile}
+use Rattle.study.proofs.Numbers.{rows-refused, rows-long, column-taken}
+use Rattle.study_text.specs.Study.{studyRefusal}
 
 -- ---- the sheet of a file
 
@@ -43,13 +42,18 @@ module _ (file : List ℕ) (bytes : ℕ) where
   unfolding studyRefusal roomRefusal fileRefusal
   by-room z = append-kept (fileRules file) _ (file-positive file) z
 
--- a column's entries in use
-taken : (f : ℕ → ℕ) (n : ℕ) → n ≤ 64 → take n (padded 64 (row f n)) ≡ row f n
-taken f n h =
-    ext-getD 0 _ _ (length-take-le n (padded 64 (row f n)) (rw length-row h) ∙ sym (length-row f n))
-    (λ k g.
-    let k-n : k < n = omega (arith, length-take-le n (padded 64 (row f n)) (rw length-row h)) in
-    getD-take n (padded 64 (row f n)) k 0 k-n ∙ padded-within f k-n (omega arith) ∙ sym (entry-row f n k k-n))
+-- slices of 64 places are never too short
+pub in-64 : (file : List ℕ) {n : ℕ} → n ≡ rowsRefusal file 64 64 64 → n ≡ fileRefusal file
+in-64 file {n} e = go (decLt 0 (fileRefusal file))
+  where
+    go : Dec (0 < fileRefusal file) → n ≡ fileRefusal file
+    go (yes p) = e ∙ sym (rows-refused file 64 64 64 refl (λ z. omega arith))
+    go (no p) =
+        let ok : fileRefusal file ≡ 0 = omega arith in
+        e ∙ sym (rows-long file 64 64 64 ok (omega (arith, line-sizes file ok .trains-most))) ∙ sym ok
+
+abbrev zeros : List ℕ
+zeros = replicate 64 0
 
 module _ (file : List ℕ) (ok : fileRefusal file ≡ 0) where
   abbrev T : ℕ
@@ -58,49 +62,54 @@ module _ (file : List ℕ) (ok : fileRefusal file ≡ 0) where
   few : T ≤ 64
   few = line-sizes file ok .trains-most
 
-  rows-text : rowsText (row (startAt file) T) (row (runningTime file) T) (row (blockAt file) T) ≡ sheetText file
+  rows-text : rowsText (startsOf file) (runsOf file) (blocksOf file) ≡ sheetText file
   unfolding lineAt lineOfTrain
   rows-text =
-      rows-joined (row (startAt file) T) (row (runningTime file) T) (row (blockAt file) T) (lineOfTrain file)
+      rows-joined (startsOf file) (runsOf file) (blocksOf file) (lineOfTrain file)
       (λ k h.
       let m : k < T = rw length-row at h in
       rw (entry-row (startAt file) T k m, entry-row (runningTime file) T k m, entry-row (blockAt file) T k m))
       ∙ rw length-row (sym (text-accepted file ok))
 
-  counts : equalCounts (length (row (startAt file) T)) (length (row (runningTime file) T)) (length (row (blockAt file) T)) ≡ true
+  counts : equalCounts (length (startsOf file)) (length (runsOf file)) (length (blocksOf file)) ≡ true
   counts = counts-equal _ _ _ (record { most = rw length-row few; runs-each = simp length-row; blocks-each = simp length-row })
 
   sheet-number :
       (bytes : ℕ) →
-      sheetRefusal (row (startAt file) T) (row (runningTime file) T) (row (blockAt file) T) bytes ≡ studyRefusal file bytes
+      sheetRefusal (startsOf file) (runsOf file) (blocksOf file) bytes ≡ studyRefusal file bytes
   sheet-number bytes =
       counts-kept _ _ _ bytes counts ∙ ap (λ (text : List ℕ). roomRefusal text bytes) rows-text ∙ sym (by-room file bytes ok)
 
-  module _ {rows : Rows} {n : ℕ} (e : rows ≡ fileRows file) (q : n ≡ T) where
-    pub rows-long : (n ≤ length (rows .starts)) × (n ≤ length (rows .runs)) × (n ≤ length (rows .blocks))
-    rows-long = let m = few in rw (e, length-row _ 64, length-row _ 64, length-row _ 64) (omega arith, omega arith, omega arith)
+  -- the columns as the call leaves them in 64 places
+  module _ {starts runs blocks : List ℕ} {n t : ℕ} (z : n ≡ 0) (q : t ≡ T)
+      (s : starts ≡ lentAfter n (startsOf file) zeros) (r : runs ≡ lentAfter n (runsOf file) zeros) (b : blocks ≡ lentAfter n (blocksOf file) zeros) where
+    columns : (take t starts ≡ startsOf file) × (take t runs ≡ runsOf file) × (take t blocks ≡ blocksOf file)
+    columns = rw q (taken (startAt file) s, taken (runningTime file) r, taken (blockAt file) b)
+      where
+        taken : (f : ℕ → ℕ) {after : List ℕ} → after ≡ lentAfter n (row f T) zeros → take T after ≡ row f T
+        taken f e = column-taken f T zeros (e ∙ rw z (lent-written _ zeros))
 
-    columns : (take n (rows .starts) ≡ row (startAt file) T) × (take n (rows .runs) ≡ row (runningTime file) T) × (take n (rows .blocks) ≡ row (blockAt file) T)
-    columns = rw (e, q) (taken (startAt file) T few, taken (runningTime file) T few, taken (blockAt file) T few)
+    pub columns-long : (t ≤ length starts) × (t ≤ length runs) × (t ≤ length blocks)
+    columns-long = rw q (long (startAt file) s, long (runningTime file) r, long (blockAt file) b)
+      where
+        long : (f : ℕ → ℕ) {after : List ℕ} → after ≡ lentAfter n (row f T) zeros → T ≤ length after
+        long f e = rw (written-long zeros (row f T) (e ∙ rw z (lent-written _ zeros)) (rw length-row few)) few
+
+    pub least-kept : LeastForFile file (take T starts) → LeastForFile file (startsOf file)
+    least-kept h = rw (columns .0) at (rw (← q) at h)
 
     module _ (buffer : List ℕ) where
       pub study-answer :
           {x : WriteAnswer} →
-          x ≡ writeAnswer (sheetRefusal (take n (rows .starts)) (take n (rows .runs)) (take n (rows .blocks)) (length buffer))
-          (rowsText (take n (rows .starts)) (take n (rows .runs)) (take n (rows .blocks))) →
+          x ≡ writeAnswer (sheetRefusal (take t starts) (take t runs) (take t blocks) (length buffer)) (rowsText (take t starts) (take t runs) (take t blocks)) →
           x ≡ writeAnswer (studyRefusal file (length buffer)) (sheetText file)
       study-answer f = f ∙ rw (columns .0, columns .1, columns .2, sheet-number (length buffer), rows-text)
 
       pub study-bytes :
           {after : List ℕ} →
-          after ≡ bytesAfter (sheetRefusal (take n (rows .starts)) (take n (rows .runs)) (take n (rows .blocks)) (length buffer))
-          (rowsText (take n (rows .starts)) (take n (rows .runs)) (take n (rows .blocks))) buffer →
-          after ≡ bytesAfter (studyRefusal file (length buffer)) (sheetText file) buffer
+          after ≡ lentAfter (sheetRefusal (take t starts) (take t runs) (take t blocks) (length buffer)) (rowsText (take t starts) (take t runs) (take t blocks)) buffer →
+          after ≡ lentAfter (studyRefusal file (length buffer)) (sheetText file) buffer
       study-bytes f = f ∙ rw (columns .0, columns .1, columns .2, sheet-number (length buffer), rows-text)
-
-  -- no train is refused
-  pub none-refused : AreBytes file → NoneRefused file
-  none-refused b = file-answers file (word-most file b 8) (word-most file b 10) ok
 
 -- ---- a text written into zeros
 
@@ -112,11 +121,11 @@ module _ (text : List ℕ) (m : ℕ) (h : length text ≤ m) where
   unfolding roomRefusal
   room-kept = rw length-replicate (head-kept 11 _ [] (le-leb (length text) m h) ∙ refusal-none)
 
-  pub printed : {after : List ℕ} {n : ℕ} → n ≡ 0 → after ≡ bytesAfter n text blank → after ≡ padded m text
+  pub printed : {after : List ℕ} {n : ℕ} → n ≡ 0 → after ≡ lentAfter n text blank → after ≡ padded m text
   printed {after} {n} z e =
       let long : length blank ≡ m = length-replicate m 0 in
       let w = written-is blank 0 text (rw (zero-add, long) h) in
-      let put : after ≡ written blank 0 text = e ∙ rw z (bytes-written text blank) in
+      let put : after ≡ written blank 0 text = e ∙ rw z (lent-written text blank) in
       put
       ∙ ext-getD 0 (written blank 0 text) (padded m text) (w .places ∙ long ∙ sym (length-row _ m))
       (λ k g. at k (omega (arith, w .places, long)) w (decLt k (length text)))

@@ -1,16 +1,11 @@
--- A whole file in one call. Document 01 has no such call: its number and its text are the paper's, and 11 is said of the lent bytes.
-use Prim.Native.Nat.{ℕ, _≤_, _<_}
+-- The text of a whole file's sheet. Document 01 has no such call: its number and its text are the paper's, and 11 is said of the lent bytes.
+use Prim.Native.Nat.{ℕ, _≤_}
 use mathlib.Core.List.{List, [], _∷_, _++_}
-use mathlib.Core.Option.{none}
-use mathlib.Core.Path.{_≡_}
 use lib.Dec.{leb}
 use lib.ListN.{length}
-use Rattle.rules.specs.Demand.{refusalOf}
-use Rattle.rules.specs.File.{trainCount}
 use Rattle.rules.specs.Numbers.{Check, check, fileChecks}
 use Rattle.rules.specs.Refusal.{rule, refusal, fileRules}
 use Rattle.rules.specs.Text.{sheetText}
-use Rattle.study.specs.Rows.{answerTo}
 
 -- the rules of the file, then 11: the lent bytes have room for the sheet's text
 unfoldable pub studyRefusal : List ℕ → ℕ → ℕ
@@ -19,7 +14,3 @@ studyRefusal file bytes = refusal (fileRules file ++ (rule 11 (leb (length (shee
 -- the same in the paper's words
 abbrev pub studyChecks : List ℕ → ℕ → List Check
 studyChecks file bytes = fileChecks file ++ (check 11 (length (sheetText file) ≤ bytes) ∷ [])
-
--- each train of the file is added: no line of the text stands for a refused addition
-abbrev pub NoneRefused : List ℕ → Type 0
-NoneRefused file = (k : ℕ) → k < trainCount file → refusalOf (answerTo file k) ≡ none
