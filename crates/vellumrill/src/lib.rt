@@ -8,18 +8,36 @@ use holds::HoldRecord;
 use line::RecordPlace;
 use sheet::Opening;
 use sheet::Sheet;
+use study::RowsAnswer;
+use text::WriteAnswer;
+use widths::wide64;
 ghost use mathlib.Core.Path.{_≡_};
 ghost use lib.ListN.{length, take};
-ghost use Rattle.rules.specs.Calls.{fileRefusal, trainRefusal, recordPlace, runRefusal, speedsAfter, timesAfter, held, opened, added, headway};
+ghost use Rattle.rules.specs.Calls.{lentAfter, fileRefusal, trainRefusal, recordPlace, runRefusal, speedsAfter, timesAfter, held, opened, added};
+ghost use Rattle.rules.specs.Calls.{headway};
 ghost use Rattle.rules.specs.Demand.{ThirdDemand};
-ghost use Rattle.rules.specs.File.{pointCount};
+ghost use Rattle.rules.specs.File.{pointCount, trainCount};
 ghost use Rattle.rules.specs.Line.{lineOf, trainOf};
+ghost use Rattle.rules.specs.Text.{sheetText};
 ghost use Rattle.rules.specs.Time.{FastestRun};
 ghost use Rattle.hold.specs.Calls.{asHoldAnswer};
 ghost use Rattle.holds.specs.Values.{asHold};
 ghost use Rattle.line.specs.Answers.{asRecordPlace};
 ghost use Rattle.sheet.specs.Values.{asOpening, asSheet};
-ghost use Rattle.vellumrill.specs.Answers.{addedByNumber, headwayByNumber};
+ghost use Rattle.study.specs.Rows.{startsOf, runsOf, blocksOf, rowsRefusal, rowsAnswer, LeastForFile};
+ghost use Rattle.study_text.specs.Study.{studyRefusal};
+ghost use Rattle.text.specs.Text.{writeAnswer};
+ghost use Rattle.vellumrill.specs.Answers.{fileSizes, addedByNumber, headwayByNumber};
+
+// P, L in m, B and T, all 0 on a refusal.
+#[repr(C)]
+pub struct Sizes {
+    pub number: u64,
+    pub points: u64,
+    pub step: u64,
+    pub blocks: u64,
+    pub trains: u64,
+}
 
 // The least start and the block named, 0 and 0 on a refusal.
 #[repr(C)]
@@ -58,6 +76,22 @@ pub extern "C" fn vr_train_record(file: &[u8], k: u64) -> RecordPlace
     ensures { λ r. ⌜ asRecordPlace r ≡ recordPlace (now (file .entry)) k ⌝ }
 {
     line::record_place(file, k)
+}
+
+// The sizes of an accepted file, rules 1 to 9.
+#[no_mangle]
+pub extern "C" fn vr_sizes(file: &[u8]) -> Sizes
+    ensures { λ r. ⌜ r ≡ fileSizes (now (file .entry)) ⌝ }
+{
+    let opened = line::open_file(file);
+    let line = opened.line;
+    Sizes {
+        number: opened.number,
+        points: wide64(line.points),
+        step: wide64(line.step),
+        blocks: line.block_count as u64,
+        trains: opened.trains as u64,
+    }
 }
 
 // The run call, rules 1 to 11. Of an accepted call the first P entries of `speeds` are the run, those of `times` its arrivals; no permitted
@@ -115,4 +149,48 @@ pub extern "C" fn vr_headway(first: &HoldRecord, second: &HoldRecord) -> Headway
     let earlier = *first;
     let later = *second;
     headway_by_number(earlier, later)
+}
+
+// The start, the running time and the block of each train of a file: rules 1 to 9, then 11 where a slice has fewer places than the file has
+// trains. A refusal leaves the slices as they came, and places behind the trains keep their values.
+#[no_mangle]
+pub extern "C" fn vr_rows(
+    file: &[u8],
+    starts: &mut [u64],
+    runs: &mut [u64],
+    blocks: &mut [u64],
+) -> RowsAnswer
+    ensures answer { λ r. ⌜
+        r
+        ≡ rowsAnswer
+        (rowsRefusal (now (file .entry)) (length (now (starts .entry))) (length (now (runs .entry))) (length (now (blocks .entry))))
+        (trainCount (now (file .entry))) ⌝ }
+    ensures starts { λ r. ⌜
+        now (starts .exit)
+        ≡ lentAfter (rowsRefusal (now (file .entry)) (length (now (starts .entry))) (length (now (runs .entry))) (length (now (blocks .entry))))
+        (startsOf (now (file .entry))) (now (starts .entry)) ⌝ }
+    ensures runs { λ r. ⌜
+        now (runs .exit)
+        ≡ lentAfter (rowsRefusal (now (file .entry)) (length (now (starts .entry))) (length (now (runs .entry))) (length (now (blocks .entry))))
+        (runsOf (now (file .entry))) (now (runs .entry)) ⌝ }
+    ensures blocks { λ r. ⌜
+        now (blocks .exit)
+        ≡ lentAfter (rowsRefusal (now (file .entry)) (length (now (starts .entry))) (length (now (runs .entry))) (length (now (blocks .entry))))
+        (blocksOf (now (file .entry))) (now (blocks .entry)) ⌝ }
+    ensures least { λ r. ⌜ (r .number ≡ 0 → LeastForFile (now (file .entry)) (take (trainCount (now (file .entry))) (now (starts .exit)))) ⌝ }
+{
+    study::rows(file, starts, runs, blocks)
+}
+
+// The sheet of a whole file as text: rules 1 to 9, then 11 where the text does not fit. A refusal leaves the lent bytes as they came.
+#[no_mangle]
+pub extern "C" fn vr_study(file: &[u8], text: &mut [u8]) -> WriteAnswer
+    ensures answer { λ r. ⌜
+        r ≡ writeAnswer (studyRefusal (now (file .entry)) (length (now (text .entry)))) (sheetText (now (file .entry))) ⌝ }
+    ensures text { λ r. ⌜
+        now (text .exit)
+        ≡ lentAfter (studyRefusal (now (file .entry)) (length (now (text .entry)))) (sheetText (now (file .entry))) (now (text .entry)) ⌝ }
+    ensures least { λ r. ⌜ (r .number ≡ 0 → LeastForFile (now (file .entry)) (startsOf (now (file .entry)))) ⌝ }
+{
+    study_text::study(file, text)
 }
