@@ -11,6 +11,27 @@ pub struct RecordAnswer {
 }
 
 #[repr(C)]
+pub struct SizesAnswer {
+    number: u64,
+    points: u64,
+    step: u64,
+    blocks: u64,
+    trains: u64,
+}
+
+#[repr(C)]
+pub struct RowsAnswer {
+    number: u64,
+    trains: u64,
+}
+
+#[repr(C)]
+pub struct Written {
+    number: u64,
+    bytes: u64,
+}
+
+#[repr(C)]
 pub struct HoldAnswer {
     number: u64,
     hold: HoldRecord,
@@ -66,6 +87,27 @@ pub unsafe extern "C" fn vr_check_train(file: *const u8, len: usize, k: u64) -> 
 pub unsafe extern "C" fn vr_train_record(file: *const u8, len: usize, k: u64) -> RecordAnswer {
     let (number, part) = split(plain::train_record(lent(file, len), k));
     RecordAnswer { number, start: part.start as u64, length: part.len() as u64 }
+}
+
+#[no_mangle]
+pub unsafe extern "C" fn vr_sizes(file: *const u8, len: usize) -> SizesAnswer {
+    let (number, sizes) = split(plain::sizes(lent(file, len)));
+    SizesAnswer { number, points: sizes.points, step: sizes.step, blocks: sizes.blocks, trains: sizes.trains }
+}
+
+#[no_mangle]
+pub unsafe extern "C" fn vr_rows(
+    file: *const u8, len: usize, starts: *mut u64, n1: usize, runs: *mut u64, n2: usize, blocks: *mut u64, n3: usize,
+) -> RowsAnswer {
+    let (starts, runs, blocks) = (lent_to_write(starts, n1), lent_to_write(runs, n2), lent_to_write(blocks, n3));
+    let (number, trains) = split(plain::rows(lent(file, len), starts, runs, blocks));
+    RowsAnswer { number, trains }
+}
+
+#[no_mangle]
+pub unsafe extern "C" fn vr_study(file: *const u8, len: usize, text: *mut u8, n: usize) -> Written {
+    let (number, bytes) = split(plain::study(lent(file, len), lent_to_write(text, n)));
+    Written { number, bytes }
 }
 
 #[no_mangle]

@@ -21,7 +21,7 @@
  *    8  stops are less than two points apart or pass the last point, or a dwell is above 3,600 s
  *    9  a train has no room behind the last block
  *   10  the file has no train k
- *   11  a lent buffer has fewer entries than the line has points
+ *   11  a lent buffer has fewer entries than are to be written
  *   12  a block count is not 1 to 32, or the sheet has more than 64 trains, or a free time above trains times 2^44
  *   13  the sheet has 64 trains
  *   14  the hold record has another block count than the sheet, a hold that is empty, or an end above 2^44
@@ -36,18 +36,40 @@
 extern "C" {
 #endif
 
+/* The numbers by name. */
+enum {
+    VR_ACCEPTED = 0,
+    VR_REFUSED_FILE_CUT = 1,
+    VR_REFUSED_BYTES_BEHIND = 2,
+    VR_REFUSED_SIZES = 3,
+    VR_REFUSED_LIMIT_POINTS = 4,
+    VR_REFUSED_LIMITS = 5,
+    VR_REFUSED_BLOCKS = 6,
+    VR_REFUSED_BANDS = 7,
+    VR_REFUSED_STOPS = 8,
+    VR_REFUSED_LAST_BLOCK = 9,
+    VR_REFUSED_NO_SUCH_TRAIN = 10,
+    VR_REFUSED_SHORT_BUFFER = 11,
+    VR_REFUSED_SHEET = 12,
+    VR_REFUSED_SHEET_FULL = 13,
+    VR_REFUSED_HOLD_RECORD = 14
+};
+
+/* The most that an accepted file has of each, and the most bytes of the text of its sheet. */
+enum { VR_MOST_POINTS = 4096, VR_MOST_TRAINS = 64, VR_MOST_BLOCKS = 32, VR_MOST_TEXT = 2390 };
+
 /* When the hold of each block begins and ends, from the train's start on. Places beyond `blocks` are not used. */
 typedef struct vr_hold_record {
     uint64_t blocks;
-    uint64_t begins[32];
-    uint64_t ends[32];
+    uint64_t begins[VR_MOST_BLOCKS];
+    uint64_t ends[VR_MOST_BLOCKS];
 } vr_hold_record;
 
 /* The sheet of starts: for each block when it is free again. Places beyond `blocks` are not used. */
 typedef struct vr_sheet {
     uint64_t blocks;
     uint64_t trains;
-    uint64_t free[32];
+    uint64_t free[VR_MOST_BLOCKS];
 } vr_sheet;
 
 /* Where a train's record stands in the file, and how many bytes it has. */
@@ -56,6 +78,14 @@ typedef struct vr_record_answer {
     uint64_t start;
     uint64_t length;
 } vr_record_answer;
+
+typedef struct vr_sizes_answer {
+    uint64_t number;
+    uint64_t points;
+    uint64_t step;
+    uint64_t blocks;
+    uint64_t trains;
+} vr_sizes_answer;
 
 typedef struct vr_hold_answer {
     uint64_t number;
@@ -78,6 +108,17 @@ typedef struct vr_headway_answer {
     uint64_t headway;
 } vr_headway_answer;
 
+typedef struct vr_rows_answer {
+    uint64_t number;
+    uint64_t trains;
+} vr_rows_answer;
+
+/* Of a call that writes bytes: how many it has written. */
+typedef struct vr_written {
+    uint64_t number;
+    uint64_t bytes;
+} vr_written;
+
 /* Checks a file.
  * Returns 0, or the number of refusal by rules 1 to 9. Writes nothing. */
 uint64_t vr_check_file(const uint8_t *file, size_t len);
@@ -91,10 +132,15 @@ uint64_t vr_check_train(const uint8_t *file, size_t len, uint64_t k);
  * refusal by rules 1 to 10 with start 0 and length 0. Writes nothing. */
 vr_record_answer vr_train_record(const uint8_t *file, size_t len, uint64_t k);
 
+/* The sizes of a file: its points, its step in m, its blocks and its trains.
+ * Returns the number 0 and these; or the number of refusal by rules 1 to 9 and zeros. Writes nothing. */
+vr_sizes_answer vr_sizes(const uint8_t *file, size_t len);
+
 /* Computes the run of train k.
  * Returns 0, or the number of refusal by rules 1 to 11. Of a line with P points it writes the P squared speeds to
  * `speeds`, in squares of hundredths of a km/h, and the P arrivals to `times`; entries from P on are kept. No permitted
- * row of speeds reaches a point before these. 4,096 entries are enough for every file. A refusal keeps every entry. */
+ * row of speeds reaches a point before these. VR_MOST_POINTS entries are enough for every file. A refusal keeps every
+ * entry. */
 uint64_t vr_run(const uint8_t *file, size_t len, uint64_t k, uint32_t *speeds, size_t ns, uint64_t *times, size_t nt);
 
 /* Computes the run and the block holds of train k.
@@ -120,6 +166,21 @@ vr_added vr_add(vr_sheet *sheet, const vr_hold_record *hold);
  * Returns the number 0 and the headway; or the first number of refusal met, by rules 12 to 14, and headway 0. Writes
  * nothing. */
 vr_headway_answer vr_headway(const vr_hold_record *first, const vr_hold_record *second);
+
+/* The sheet of a whole file: all its trains, added in the file's order to a fresh sheet.
+ * Returns the number 0 and the count of trains T; or the number of refusal by rules 1 to 9, then 11 where one of the
+ * three has fewer than T entries, and 0 trains. Writes to the first T entries of `starts`, `runs` and `blocks` each
+ * train's start, its running time and the block that binds it, as vr_add and vr_run give them; entries from T on are
+ * kept. No two trains overlap in a block, and none could start sooner in that order. VR_MOST_TRAINS entries are enough
+ * for every file. A refusal keeps every entry. */
+vr_rows_answer vr_rows(const uint8_t *file, size_t len, uint64_t *starts, size_t n1, uint64_t *runs, size_t n2,
+                       uint64_t *blocks, size_t n3);
+
+/* The same sheet as text: a line "train start run block", then a line for each train, counted from 1.
+ * Returns the number 0 and the count of bytes; or the number of refusal by rules 1 to 9, then 11 where the text has more
+ * than n bytes, and 0 bytes. Writes the text to the first bytes of `text`; the others are kept. VR_MOST_TEXT bytes are
+ * enough for every file. A refusal keeps every byte. */
+vr_written vr_study(const uint8_t *file, size_t len, uint8_t *text, size_t n);
 
 #ifdef __cplusplus
 }

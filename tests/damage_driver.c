@@ -105,6 +105,40 @@ static void print_sheet(const vr_sheet *sheet)
     printf("\n");
 }
 
+/* How many places the columns of the whole file get, and how many bytes its text: enough, or too few. */
+enum { COLUMNS = 3, COLUMN_BOUND = 80, TEXT_BOUND = 3000 };
+
+static void ask_whole_file(const struct question *asked)
+{
+    vr_sizes_answer sizes = vr_sizes(asked->file, asked->length);
+    printf("sizes %" PRIu64 " %" PRIu64 " %" PRIu64 " %" PRIu64 " %" PRIu64 "\n",
+           sizes.number, sizes.points, sizes.step, sizes.blocks, sizes.trains);
+
+    uint64_t *columns[COLUMNS];
+    size_t lengths[COLUMNS];
+    for (size_t i = 0; i < COLUMNS; i++) {
+        lengths[i] = (asked->speeds_length + i * asked->times_length) % COLUMN_BOUND;
+        columns[i] = filled(lengths[i] * sizeof *columns[i]);
+    }
+    vr_rows_answer rows = vr_rows(asked->file, asked->length, columns[0], lengths[0], columns[1], lengths[1],
+                                  columns[2], lengths[2]);
+    printf("rows %" PRIu64 " %" PRIu64, rows.number, rows.trains);
+    for (size_t i = 0; i < COLUMNS; i++) {
+        print_times(columns[i], written(columns[i], sizeof *columns[i], lengths[i]));
+        free(columns[i]);
+    }
+    printf("\n");
+
+    size_t text_length = 7 * asked->speeds_length % TEXT_BOUND;
+    uint8_t *text = filled(text_length);
+    vr_written study = vr_study(asked->file, asked->length, text, text_length);
+    printf("study %" PRIu64 " %" PRIu64, study.number, study.bytes);
+    for (size_t i = 0; i < written(text, 1, text_length); i++)
+        printf(" %d", text[i]);
+    printf("\n");
+    free(text);
+}
+
 static void ask_checks(const struct question *asked)
 {
     printf("check_file %" PRIu64 "\n", vr_check_file(asked->file, asked->length));
@@ -159,6 +193,7 @@ int main(void)
     struct question asked;
     while (read_question(&asked)) {
         ask_checks(&asked);
+        ask_whole_file(&asked);
         ask_run(&asked);
         vr_hold_record *hold = ask_hold(&asked);
         ask_sheet(hold);

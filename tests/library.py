@@ -31,6 +31,18 @@ class RecordAnswer(Structure):
     _fields_ = [("number", c_uint64), ("start", c_uint64), ("length", c_uint64)]
 
 
+class Sizes(Structure):
+    _fields_ = [("number", c_uint64), ("points", c_uint64), ("step", c_uint64), ("blocks", c_uint64), ("trains", c_uint64)]
+
+
+class RowsAnswer(Structure):
+    _fields_ = [("number", c_uint64), ("trains", c_uint64)]
+
+
+class Written(Structure):
+    _fields_ = [("number", c_uint64), ("bytes", c_uint64)]
+
+
 class HoldAnswer(Structure):
     _fields_ = [("number", c_uint64), ("hold", HoldRecord)]
 
@@ -53,11 +65,14 @@ CALLS = {
     "vr_check_file": (c_uint64, FILE),
     "vr_check_train": (c_uint64, FILE + [c_uint64]),
     "vr_train_record": (RecordAnswer, FILE + [c_uint64]),
+    "vr_sizes": (Sizes, FILE),
     "vr_run": (c_uint64, FILE + [c_uint64] + BUFFERS),
     "vr_hold": (HoldAnswer, FILE + [c_uint64] + BUFFERS),
     "vr_open": (Opened, [c_uint64]),
     "vr_add": (Added, [POINTER(Sheet), POINTER(HoldRecord)]),
     "vr_headway": (HeadwayAnswer, [POINTER(HoldRecord), POINTER(HoldRecord)]),
+    "vr_rows": (RowsAnswer, FILE + 3 * [POINTER(c_uint64), c_size_t]),
+    "vr_study": (Written, FILE + [POINTER(c_uint8), c_size_t]),
 }
 
 
@@ -85,7 +100,7 @@ def untouched(what, kept):
 
 
 class Library:
-    """The eight calls. Each checks the memory that it lends and raises Touched."""
+    """The calls. Each checks the memory that it lends and raises Touched."""
 
     def __init__(self, path=None):
         if path is None:
@@ -118,6 +133,13 @@ class Library:
         untouched("file", bytes(file) == data)
         return answer.number, answer.start, answer.length
 
+    def sizes(self, data):
+        """The number, P, L, B and T."""
+        file = lent_file(data)
+        answer = self.sizes_in_c(file, len(data))
+        untouched("file", bytes(file) == data)
+        return answer.number, answer.points, answer.step, answer.blocks, answer.trains
+
     def run(self, data, k, speeds_length, times_length):
         """The number, and the entries written to both buffers."""
         lent = Lent(data, speeds_length, times_length)
@@ -129,6 +151,26 @@ class Library:
         lent = Lent(data, speeds_length, times_length)
         answer = self.hold_in_c(*lent.arguments(k))
         return answer.number, answer.hold, *lent.written(answer.number)
+
+    # ---- whole files
+
+    def rows(self, data, *lengths):
+        """The number, T, and the entries written to the three columns: starts, running times and blocks."""
+        file, columns = lent_file(data), [filled(c_uint64, length) for length in lengths]
+        answer = self.rows_in_c(file, len(data), *[word for pair in zip(columns, lengths) for word in pair])
+        untouched("file", bytes(file) == data)
+        written = [written_entries(column, length) for column, length in zip(columns, lengths)]
+        untouched("columns on a refusal", answer.number == 0 or not any(written))
+        return answer.number, answer.trains, *written
+
+    def study(self, data, length):
+        """The number, the count of bytes, and the text written."""
+        file, text = lent_file(data), filled(c_uint8, length)
+        answer = self.study_in_c(file, len(data), text, length)
+        untouched("file", bytes(file) == data)
+        written = bytes(written_entries(text, length))
+        untouched("text on a refusal", answer.number == 0 or not written)
+        return answer.number, answer.bytes, written
 
     # ---- sheets
 

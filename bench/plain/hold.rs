@@ -33,9 +33,13 @@ fn hold_record(line: &Line, train: &Train, speeds: &[u32], times: &[u64]) -> Hol
     hold
 }
 
+/// The run and the hold of a train of an accepted file.
+pub fn hold_on(line: &Line, train: &Train, speeds: &mut [u32], times: &mut [u64]) -> Result<HoldRecord, Refusal> {
+    write_run(line, train, speeds, times)?;
+    Ok(hold_record(line, train, speeds, times))
+}
+
 pub fn hold(file: &[u8], k: u64, speeds: &mut [u32], times: &mut [u64]) -> Result<HoldRecord, Refusal> {
     let line = Line::open(file)?;
-    let train = line.train(k)?;
-    write_run(&line, train, speeds, times)?;
-    Ok(hold_record(&line, train, speeds, times))
+    hold_on(&line, line.train(k)?, speeds, times)
 }

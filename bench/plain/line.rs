@@ -53,7 +53,7 @@ pub struct Line<'a> {
     pub limits: Words<'a>,
     pub block_starts: Words<'a>,
     pub block_ends: Words<'a>,
-    trains: Vec<Train<'a>>,
+    pub trains: Vec<Train<'a>>,
 }
 
 struct Reader<'a> {

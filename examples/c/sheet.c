@@ -9,39 +9,12 @@
 
 #include "vellumrill.h"
 
-enum { MOST_BYTES = 16384, MOST_POINTS = 4096, MOST_TRAINS = 64, NO_SUCH_TRAIN = 10 };
-
-typedef struct row {
-    uint64_t start, run, block;
-} row;
-
-/* Fills a row for each train and counts them. Returns 0 or the number of refusal. */
-static uint64_t study(const uint8_t *file, size_t len, row *rows, size_t *trains)
-{
-    static uint32_t speeds[MOST_POINTS];
-    static uint64_t times[MOST_POINTS];
-    vr_opened opened = {0};
-    for (*trains = 0; *trains < MOST_TRAINS; ++*trains) {
-        vr_hold_answer held = vr_hold(file, len, *trains, speeds, MOST_POINTS, times, MOST_POINTS);
-        if (held.number == NO_SUCH_TRAIN)
-            return 0;
-        if (held.number != 0)
-            return held.number;
-        if (*trains == 0)
-            opened = vr_open(held.hold.blocks);
-        vr_added added = vr_add(&opened.sheet, &held.hold);
-        if (added.number != 0)
-            return added.number;
-        size_t points = file[0] + 256u * file[1];
-        rows[*trains] = (row){added.start, times[points - 1], added.block};
-    }
-    return 0;
-}
+enum { MOST_BYTES = 16384 };
 
 int main(int argc, char **argv)
 {
     static uint8_t file[MOST_BYTES + 1];
-    static row rows[MOST_TRAINS];
+    uint64_t starts[VR_MOST_TRAINS], runs[VR_MOST_TRAINS], blocks[VR_MOST_TRAINS];
     FILE *in = argc == 2 ? fopen(argv[1], "rb") : NULL;
     if (in == NULL) {
         fprintf(stderr, "usage: sheet_c LINEFILE\n");
@@ -50,14 +23,15 @@ int main(int argc, char **argv)
     size_t len = fread(file, 1, sizeof file, in);
     fclose(in);
 
-    size_t trains;
-    uint64_t number = len > MOST_BYTES ? 2 : study(file, len, rows, &trains);
-    if (number != 0) {
-        printf("refused %" PRIu64 "\n", number);
+    vr_rows_answer answer = vr_rows(file, len, starts, VR_MOST_TRAINS, runs, VR_MOST_TRAINS, blocks, VR_MOST_TRAINS);
+    if (len > MOST_BYTES)
+        answer.number = VR_REFUSED_BYTES_BEHIND;
+    if (answer.number != VR_ACCEPTED) {
+        printf("refused %" PRIu64 "\n", answer.number);
         return 0;
     }
     printf("train start run block\n");
-    for (size_t k = 0; k < trains; ++k)
-        printf("%zu %" PRIu64 " %" PRIu64 " %" PRIu64 "\n", k + 1, rows[k].start, rows[k].run, rows[k].block);
+    for (uint64_t k = 0; k < answer.trains; ++k)
+        printf("%" PRIu64 " %" PRIu64 " %" PRIu64 " %" PRIu64 "\n", k + 1, starts[k], runs[k], blocks[k]);
     return 0;
 }
