@@ -38,12 +38,6 @@ pub struct HoldAnswer {
 }
 
 #[repr(C)]
-pub struct Opened {
-    number: u64,
-    sheet: Sheet,
-}
-
-#[repr(C)]
 pub struct Added {
     number: u64,
     start: u64,
@@ -128,9 +122,8 @@ pub unsafe extern "C" fn vr_hold(
 }
 
 #[no_mangle]
-pub extern "C" fn vr_open(blocks: u64) -> Opened {
-    let (number, sheet) = split(Sheet::open(blocks));
-    Opened { number, sheet }
+pub extern "C" fn vr_open(blocks: u64, sheet: &mut Sheet) -> u64 {
+    split(Sheet::open(blocks).map(|opened| *sheet = opened)).0
 }
 
 #[no_mangle]

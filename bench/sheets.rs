@@ -17,12 +17,6 @@ struct HoldAnswer {
 }
 
 #[repr(C)]
-struct Opened {
-    number: u64,
-    sheet: Sheet,
-}
-
-#[repr(C)]
 struct Added {
     number: u64,
     start: u64,
@@ -40,7 +34,7 @@ extern "C" {
     fn vr_hold(
         file: *const u8, len: usize, k: u64, speeds: *mut u32, ns: usize, times: *mut u64, nt: usize,
     ) -> HoldAnswer;
-    fn vr_open(blocks: u64) -> Opened;
+    fn vr_open(blocks: u64, sheet: *mut Sheet) -> u64;
     fn vr_add(sheet: *mut Sheet, hold: *const HoldRecord) -> Added;
 }
 
@@ -77,10 +71,11 @@ impl Calculator for Library {
     }
 
     fn open(blocks: u64) -> Sheet {
-        // SAFETY: no memory is lent.
-        let answer = unsafe { vr_open(blocks) };
-        assert_eq!(answer.number, 0);
-        answer.sheet
+        let mut sheet = Sheet::default();
+        // SAFETY: the sheet has the layout that the header gives.
+        let number = unsafe { vr_open(blocks, &mut sheet) };
+        assert_eq!(number, 0);
+        sheet
     }
 
     fn add(sheet: &mut Sheet, hold: &HoldRecord) -> (u64, u64) {

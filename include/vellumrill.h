@@ -36,6 +36,9 @@
 extern "C" {
 #endif
 
+/* Raised whenever a call, a struct or the meaning of a figure changes. */
+#define VR_VERSION 1
+
 /* The numbers by name. */
 enum {
     VR_ACCEPTED = 0,
@@ -92,11 +95,6 @@ typedef struct vr_hold_answer {
     vr_hold_record hold;
 } vr_hold_answer;
 
-typedef struct vr_opened {
-    uint64_t number;
-    vr_sheet sheet;
-} vr_opened;
-
 typedef struct vr_added {
     uint64_t number;
     uint64_t start;
@@ -151,10 +149,10 @@ vr_hold_answer vr_hold(const uint8_t *file, size_t len, uint64_t k, uint32_t *sp
                        size_t nt);
 
 /* Opens a sheet of starts for a line with so many blocks.
- * Returns the number 0 and a sheet with no trains and every block free at 0; or the number 12 and a sheet of zeros.
- * Writes nothing. Trains added to an opened sheet never overlap in a block, and none could start sooner in that
- * order. */
-vr_opened vr_open(uint64_t blocks);
+ * Returns 0, or the number 12. Writes to the sheet this block count, no trains, and 0 for every free time; whatever it
+ * held before. Trains added to an opened sheet never overlap in a block, and none could start sooner in that order. A
+ * refusal leaves the sheet as it was. */
+uint64_t vr_open(uint64_t blocks, vr_sheet *sheet);
 
 /* Adds a train to a sheet.
  * Returns the number 0, the least start, and the first block that binds it, counted from 1, or block 0 if the start is

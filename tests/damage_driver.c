@@ -174,9 +174,14 @@ static vr_hold_record *ask_hold(struct question *asked)
 static void ask_sheet(const vr_hold_record *hold)
 {
     vr_sheet *sheet = filled(sizeof *sheet);
-    vr_opened opened = vr_open(hold->blocks);
-    *sheet = opened.sheet;
-    printf("open %" PRIu64, opened.number);
+    uint64_t number = vr_open(hold->blocks, sheet);
+    if (number != 0) {
+        /* nothing may be written; the calls below get zeros */
+        if (written(sheet, 1, sizeof *sheet) != 0)
+            exit(3);
+        memset(sheet, 0, sizeof *sheet);
+    }
+    printf("open %" PRIu64, number);
     print_sheet(sheet);
     for (int i = 0; i < 2; i++) {
         vr_added added = vr_add(sheet, hold);

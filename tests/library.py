@@ -47,10 +47,6 @@ class HoldAnswer(Structure):
     _fields_ = [("number", c_uint64), ("hold", HoldRecord)]
 
 
-class Opened(Structure):
-    _fields_ = [("number", c_uint64), ("sheet", Sheet)]
-
-
 class Added(Structure):
     _fields_ = [("number", c_uint64), ("start", c_uint64), ("block", c_uint64)]
 
@@ -68,7 +64,7 @@ CALLS = {
     "vr_sizes": (Sizes, FILE),
     "vr_run": (c_uint64, FILE + [c_uint64] + BUFFERS),
     "vr_hold": (HoldAnswer, FILE + [c_uint64] + BUFFERS),
-    "vr_open": (Opened, [c_uint64]),
+    "vr_open": (c_uint64, [c_uint64, POINTER(Sheet)]),
     "vr_add": (Added, [POINTER(Sheet), POINTER(HoldRecord)]),
     "vr_headway": (HeadwayAnswer, [POINTER(HoldRecord), POINTER(HoldRecord)]),
     "vr_rows": (RowsAnswer, FILE + 3 * [POINTER(c_uint64), c_size_t]),
@@ -175,9 +171,12 @@ class Library:
     # ---- sheets
 
     def open(self, blocks):
-        """The number and the sheet."""
-        answer = self.open_in_c(blocks)
-        return answer.number, answer.sheet
+        """The number and the sheet, all zeros on a refusal."""
+        sheet = Sheet.from_buffer_copy(bytes([PATTERN]) * ctypes.sizeof(Sheet))
+        before = bytes(sheet)
+        number = self.open_in_c(blocks, sheet)
+        untouched("sheet on a refusal", number == 0 or bytes(sheet) == before)
+        return number, Sheet() if number else sheet
 
     def add(self, sheet, hold):
         """The number, the start and the block; the sheet is altered where it lies."""

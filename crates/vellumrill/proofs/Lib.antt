@@ -1,3 +1,4 @@
 pub mod Machine
 pub mod Numbers
 pub mod FileSizes
+pub mod Opened

@@ -3,17 +3,36 @@ use crate::Added;
 use crate::HeadwayAnswer;
 use holds::HoldRecord;
 use sheet::Answer;
+use sheet::Opening;
 use sheet::Sheet;
 ghost use mathlib.Core.Path.{_≡_};
-ghost use Rattle.rules.specs.Calls.{added, headway};
+ghost use Rattle.rules.specs.Calls.{opened, added, headway};
+ghost use Rattle.rules.specs.Demand.{ThirdDemand};
 ghost use Rattle.holds.specs.Values.{asHold};
 ghost use Rattle.sheet.specs.Values.{asSheet, asAnswer};
-ghost use Rattle.vellumrill.specs.Answers.{addedByNumber, headwayByNumber};
+ghost use Rattle.vellumrill.specs.Answers.{openedInto, addedByNumber, headwayByNumber};
 
 // The answer of an adding call, and the sheet as the call leaves it.
 pub(crate) struct Step {
     pub answer: Added,
     pub sheet: Sheet,
+}
+
+// What the opening call answers, and the sheet that it leaves of the one lent to it.
+pub(crate) fn opened_over(blocks: u64, before: Sheet) -> Opening
+    ensures { λ r. ⌜
+        (r .number ≡ opened blocks .number)
+        × (asSheet (r .sheet) ≡ openedInto blocks (asSheet before))
+        × (r .number ≡ 0 → ThirdDemand blocks (asSheet (r .sheet))) ⌝ }
+{
+    let opening = sheet::open_sheet(blocks);
+    if opening.number == 0 {
+        return opening;
+    }
+    Opening {
+        number: opening.number,
+        sheet: before,
+    }
 }
 
 fn added_by_number(answer: Answer) -> Added

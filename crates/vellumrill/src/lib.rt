@@ -2,11 +2,11 @@
 mod answers;
 
 use answers::headway_by_number;
+use answers::opened_over;
 use answers::step_by_number;
 use hold::HoldAnswer;
 use holds::HoldRecord;
 use line::RecordPlace;
-use sheet::Opening;
 use sheet::Sheet;
 use study::RowsAnswer;
 use text::WriteAnswer;
@@ -23,11 +23,11 @@ ghost use Rattle.rules.specs.Time.{FastestRun};
 ghost use Rattle.hold.specs.Calls.{asHoldAnswer};
 ghost use Rattle.holds.specs.Values.{asHold};
 ghost use Rattle.line.specs.Answers.{asRecordPlace};
-ghost use Rattle.sheet.specs.Values.{asOpening, asSheet};
+ghost use Rattle.sheet.specs.Values.{asSheet};
 ghost use Rattle.study.specs.Rows.{startsOf, runsOf, blocksOf, rowsRefusal, rowsAnswer, LeastForFile};
 ghost use Rattle.study_text.specs.Study.{studyRefusal};
 ghost use Rattle.text.specs.Text.{writeAnswer};
-ghost use Rattle.vellumrill.specs.Answers.{fileSizes, addedByNumber, headwayByNumber};
+ghost use Rattle.vellumrill.specs.Answers.{fileSizes, openedInto, addedByNumber, headwayByNumber};
 
 // P, L in m, B and T, all 0 on a refusal.
 #[repr(C)]
@@ -118,13 +118,18 @@ pub extern "C" fn vr_hold(file: &[u8], k: u64, speeds: &mut [u32], times: &mut [
     hold::hold(file, k, speeds, times)
 }
 
-// Opens a sheet, rule 12. Every list of adding calls from it meets the third demand.
+// Opens a sheet where it lies, rule 12. Every list of adding calls from it meets the third demand. A refusal leaves the sheet as it was.
 #[no_mangle]
-pub extern "C" fn vr_open(blocks: u64) -> Opening
-    ensures sheet { λ r. ⌜ asOpening r ≡ opened blocks ⌝ }
-    ensures demand { λ r. ⌜ (r .number ≡ 0 → ThirdDemand blocks (asSheet (r .sheet))) ⌝ }
+pub extern "C" fn vr_open(blocks: u64, sheet: &mut Sheet) -> u64
+    ensures { λ r. ⌜
+        (r ≡ opened blocks .number)
+        × (asSheet (now (sheet .exit)) ≡ openedInto blocks (asSheet (now (sheet .entry))))
+        × (r ≡ 0 → ThirdDemand blocks (asSheet (now (sheet .exit)))) ⌝ }
 {
-    sheet::open_sheet(blocks)
+    let before = *sheet;
+    let opening = opened_over(blocks, before);
+    *sheet = opening.sheet;
+    opening.number
 }
 
 // The adding call, rules 12 to 14, on a sheet with any contents. The sheet is altered where it lies; a refusal leaves it as it was.
