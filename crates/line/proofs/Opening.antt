@@ -99,7 +99,7 @@ module _ (file : List ℕ) (k : ℕ) where
     unfolding openedTrain
     train-not-opened h = rw (found-number, ne-eqb (trainRefusal file k) 0 (λ z. h (found-number ∙ z)))
 
-    pub place-refused : (o .number ≡ 0 → ⊥) → _≡_ {A = RecordPlace} (record { number = o .number; start = 0; bytes = 0 }) (recordPlace file k)
+    pub place-refused : (o .number ≡ 0 → ⊥) → _≡_ {A = RecordPlace} (record { number = o .number; start = 0; length = 0 }) (recordPlace file k)
     unfolding recordPlace
     place-refused h = rw (found-number, ne-eqb (trainRefusal file k) 0 (λ z. h (found-number ∙ z)))
 
@@ -130,7 +130,7 @@ module _ (file : List ℕ) (k : ℕ) where
           rw (eq-eqb (trainRefusal file k) 0 accepted, line, train)
 
       pub place-found : {n : ℕ} → n ≡ recordSize (partFrom file (o .at)) 0 →
-          _≡_ {A = RecordPlace} (record { number = 0; start = o .at; bytes = n }) (recordPlace file k)
+          _≡_ {A = RecordPlace} (record { number = 0; start = o .at; length = n }) (recordPlace file k)
       unfolding recordPlace
       place-found {n} f =
           let size : n ≡ recordSize file (recordAt file k) =
@@ -165,14 +165,14 @@ module _ (file : List ℕ) (k : ℕ) where
 
   -- the part that is handed out
   module _ {p : RecordPlace} (e : p ≡ recordPlace file k) where
-    pub part-handed : take (p .bytes) (drop (p .start) file) ≡ trainRecord file k
+    pub part-handed : take (p .length) (drop (p .start) file) ≡ trainRecord file k
     part-handed = rw e (sym (place-handed file k))
 
-    pub part-within : p .start + p .bytes ≤ length file
+    pub part-within : p .start + p .length ≤ length file
     unfolding recordPlace
     part-within = rw e (go (eqb (trainRefusal file k) 0) refl)
       where
-        go : (b : Bool) → eqb (trainRefusal file k) 0 ≡ b → recordPlace file k .start + recordPlace file k .bytes ≤ length file
+        go : (b : Bool) → eqb (trainRefusal file k) 0 ≡ b → recordPlace file k .start + recordPlace file k .length ≤ length file
         go true q =
             let (ok, there) = train-accepted file k (eqb-true (trainRefusal file k) 0 q) in
             rw q (omega (arith, record-within file k there, file-there file ok))

@@ -15,7 +15,7 @@ use Rattle.line.specs.declared.opened.FileAnswer.{FileAnswer}
 use Rattle.line.specs.declared.opened.TrainAnswer.{TrainAnswer}
 
 abbrev pub asRecordPlace : RecordPlace → calls.RecordPlace
-asRecordPlace r = record { number = r .number; start = r .start; bytes = r .bytes }
+asRecordPlace r = record { number = r .number; start = r .start; length = r .length }
 
 -- a file opened: the number 0, T, the place of its first train record and its line; or the number of refusal and zeros
 abbrev pub refusedFile : ℕ → FileAnswer

@@ -18,7 +18,7 @@ ghost use Rattle.line.specs.Answers.{asRecordPlace};
 pub struct RecordPlace {
     pub number: u64,
     pub start: u64,
-    pub bytes: u64,
+    pub length: u64,
 }
 
 // The number of refusal of a file by rules 1 to 9, or 0.
@@ -44,14 +44,14 @@ pub fn record_place(file: &[u8], k: u64) -> RecordPlace
         return RecordPlace {
             number: found.number,
             start: 0,
-            bytes: 0,
+            length: 0,
         };
     }
     let at = found.at;
     RecordPlace {
         number: 0,
         start: at as u64,
-        bytes: record_size(&file[at..]) as u64,
+        length: record_size(&file[at..]) as u64,
     }
 }
 
@@ -61,6 +61,6 @@ pub fn train_record(file: &[u8], k: u64) -> &[u8]
 {
     let place = record_place(file, k);
     let start = place.start as usize;
-    let end = start + place.bytes as usize;
+    let end = start + place.length as usize;
     &file[start..end]
 }

@@ -34,16 +34,16 @@ module _ (file : List ℕ) (k : ℕ) where
   nothing-handed h = rw (ne-eqb (trainRefusal file k) 0 h)
 
   -- the part handed out stands where the place says
-  pub place-handed : trainRecord file k ≡ take (recordPlace file k .bytes) (drop (recordPlace file k .start) file)
+  pub place-handed : trainRecord file k ≡ take (recordPlace file k .length) (drop (recordPlace file k .start) file)
   unfolding trainRecord recordPlace
   place-handed = go (eqb (trainRefusal file k) 0)
     where
       handed : Bool → RecordPlace
       handed b =
-          cond b (record { number = 0; start = recordAt file k; bytes = recordSize file (recordAt file k) })
-          (record { number = trainRefusal file k; start = 0; bytes = 0 })
+          cond b (record { number = 0; start = recordAt file k; length = recordSize file (recordAt file k) })
+          (record { number = trainRefusal file k; start = 0; length = 0 })
 
-      go : (b : Bool) → cond b (recordBytes file k) [] ≡ take (handed b .bytes) (drop (handed b .start) file)
+      go : (b : Bool) → cond b (recordBytes file k) [] ≡ take (handed b .length) (drop (handed b .start) file)
       go true = refl
       go false = refl
 

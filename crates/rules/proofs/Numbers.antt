@@ -128,13 +128,13 @@ module _ (file : List ℕ) where
     record-number = answers-by (λ o. cond (eqb (orZero o) 0) (recordBytes file k) []) judges-train-call
 
     pub place-number :
-        AnswersBy (trainCallChecks file k) (λ n. record { number = n; start = 0; bytes = 0 })
-        (record { number = 0; start = recordAt file k; bytes = recordSize file (recordAt file k) }) (recordPlace file k)
+        AnswersBy (trainCallChecks file k) (λ n. record { number = n; start = 0; length = 0 })
+        (record { number = 0; start = recordAt file k; length = recordSize file (recordAt file k) }) (recordPlace file k)
     unfolding refusal trainRefusal recordPlace
     place-number =
         answers-by
-        (λ o. cond {A = RecordPlace} (eqb (orZero o) 0) (record { number = 0; start = recordAt file k; bytes = recordSize file (recordAt file k) })
-        (record { number = orZero o; start = 0; bytes = 0 })) judges-train-call
+        (λ o. cond {A = RecordPlace} (eqb (orZero o) 0) (record { number = 0; start = recordAt file k; length = recordSize file (recordAt file k) })
+        (record { number = orZero o; start = 0; length = 0 })) judges-train-call
 
     module _ (speeds times : ℕ) where
       judges-run-call : Judges (runRules file k speeds times) (runCallChecks file k speeds times)

@@ -37,12 +37,12 @@ trainRecord file k = cond (eqb (trainRefusal file k) 0) (recordBytes file k) []
 pub record RecordPlace : Type 0 where
   pub number : ℕ
   pub start : ℕ
-  pub bytes : ℕ
+  pub length : ℕ
 
 unfoldable pub recordPlace : List ℕ → ℕ → RecordPlace
 recordPlace file k =
-    cond (eqb (trainRefusal file k) 0) (record { number = 0; start = recordAt file k; bytes = recordSize file (recordAt file k) })
-    (record { number = trainRefusal file k; start = 0; bytes = 0 })
+    cond (eqb (trainRefusal file k) 0) (record { number = 0; start = recordAt file k; length = recordSize file (recordAt file k) })
+    (record { number = trainRefusal file k; start = 0; length = 0 })
 
 -- the run call and the hold call, by the lengths of the lent buffers
 unfoldable pub runRefusal : List ℕ → ℕ → ℕ → ℕ → ℕ

@@ -70,7 +70,7 @@ pub extern "C" fn vr_check_train(file: &[u8], k: u64) -> u64
     line::check_train(file, k)
 }
 
-// Rules 1 to 10. The record of train k is the part of the file that begins at byte `start` and has `bytes` bytes; 0 and 0 on a refusal.
+// Rules 1 to 10. The record of train k is the part of the file that begins at byte `start` and has `length` bytes; 0 and 0 on a refusal.
 #[no_mangle]
 pub extern "C" fn vr_train_record(file: &[u8], k: u64) -> RecordPlace
     ensures { λ r. ⌜ asRecordPlace r ≡ recordPlace (now (file .entry)) k ⌝ }

@@ -25,7 +25,7 @@ returns : tie.Need-returns
 returns c =
     let place = c .before .record-place in
     let p = place .result in
-    let n : p .start + p .bytes - p .start ≡ p .bytes = omega arith in
+    let n : p .start + p .length - p .start ≡ p .length = omega arith in
     rw n (part-handed _ _ (place .ensures))
 
 pub train-record-spec : {M : Type 1} → statement M
