@@ -41,5 +41,5 @@ pub fn hold_on(line: &Line, train: &Train, speeds: &mut [u32], times: &mut [u64]
 
 pub fn hold(file: &[u8], k: u64, speeds: &mut [u32], times: &mut [u64]) -> Result<HoldRecord, Refusal> {
     let line = Line::open(file)?;
-    hold_on(&line, line.train(k)?, speeds, times)
+    hold_on(&line, &line.train(k)?, speeds, times)
 }

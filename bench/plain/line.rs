@@ -53,7 +53,26 @@ pub struct Line<'a> {
     pub limits: Words<'a>,
     pub block_starts: Words<'a>,
     pub block_ends: Words<'a>,
-    pub trains: Vec<Train<'a>>,
+    pub trains: Trains<'a>,
+}
+
+/// The train records, where they lie in the file.
+pub struct Trains<'a> {
+    file: &'a [u8],
+    at: usize,
+    count: usize,
+}
+
+impl<'a> Trains<'a> {
+    pub fn len(&self) -> usize {
+        self.count
+    }
+
+    /// All trains, once they are known to be there.
+    pub fn iter(&self) -> impl Iterator<Item = Train<'a>> {
+        let mut reader = Reader { file: self.file, at: self.at };
+        (0..self.count).map_while(move |_| reader.train().ok())
+    }
 }
 
 struct Reader<'a> {
@@ -87,7 +106,7 @@ impl<'a> Reader<'a> {
     fn line(&mut self) -> Result<Line<'a>, Refusal> {
         let head = self.words(6)?;
         let (limits, blocks) = (head.get(2), head.get(3));
-        let mut line = Line {
+        let line = Line {
             points: head.get(0),
             step: head.get(1),
             set_up: head.get(4),
@@ -96,12 +115,13 @@ impl<'a> Reader<'a> {
             limits: self.words(limits)?,
             block_starts: self.words(blocks)?,
             block_ends: self.words(blocks)?,
-            trains: Vec::new(),
+            trains: {
+                let count = self.words(1)?.get(0);
+                Trains { file: self.file, at: self.at, count }
+            },
         };
-        let count = self.words(1)?.get(0);
-        line.trains.reserve(count.min(64));
-        for _ in 0..count {
-            line.trains.push(self.train()?);
+        for _ in 0..line.trains.len() {
+            self.train()?;
         }
         if self.at == self.file.len() { Ok(line) } else { Err(2) }
     }
@@ -139,8 +159,8 @@ impl<'a> Line<'a> {
         }
     }
 
-    pub fn train(&self, k: u64) -> Result<&Train<'a>, Refusal> {
-        usize::try_from(k).ok().and_then(|k| self.trains.get(k)).ok_or(10)
+    pub fn train(&self, k: u64) -> Result<Train<'a>, Refusal> {
+        usize::try_from(k).ok().and_then(|k| self.trains.iter().nth(k)).ok_or(10)
     }
 
     /// The train's length in cells, rounded up.
@@ -159,7 +179,7 @@ impl<'a> Line<'a> {
             (4, Self::limit_points_kept),
             (5, |line| line.limits.all_within(1..=300)),
             (6, Self::blocks_kept),
-            (7, |line| line.trains.iter().all(Train::bands_kept)),
+            (7, |line| line.trains.iter().all(|train| train.bands_kept())),
             (8, |line| line.trains.iter().all(|train| train.stops_kept(line.points))),
             (9, Self::room_kept),
         ];
@@ -172,7 +192,7 @@ impl<'a> Line<'a> {
             && (1..=64).contains(&self.limits.len())
             && (1..=32).contains(&self.block_ends.len())
             && (1..=64).contains(&self.trains.len())
-            && self.trains.iter().all(Train::sizes_kept)
+            && self.trains.iter().all(|train| train.sizes_kept())
     }
 
     fn limit_points_kept(&self) -> bool {
@@ -194,7 +214,7 @@ impl<'a> Line<'a> {
 
     fn room_kept(&self) -> bool {
         let end = self.block_ends.last().unwrap_or(0);
-        self.trains.iter().all(|train| end + self.cells(train) < self.points)
+        self.trains.iter().all(|train| end + self.cells(&train) < self.points)
     }
 }
 
@@ -208,5 +228,5 @@ pub fn check_train(file: &[u8], k: u64) -> Result<(), Refusal> {
 
 /// Where the record of train k lies in the file.
 pub fn train_record(file: &[u8], k: u64) -> Result<Range<usize>, Refusal> {
-    Ok(Line::open(file)?.train(k)?.record.clone())
+    Ok(Line::open(file)?.train(k)?.record)
 }

@@ -20,6 +20,8 @@ struct Band {
 struct Bands {
     list: [Band; 8],
     count: usize,
+    /// No band gains more than the one before it.
+    falling: bool,
 }
 
 impl Bands {
@@ -28,11 +30,21 @@ impl Bands {
         for (band, (top, rate)) in list.iter_mut().zip(train.tops.iter().zip(train.rates.iter())) {
             *band = Band { gain: (rate * 2592 * line.step) as u32, most: squared(top) };
         }
-        Bands { list, count: train.tops.len() }
+        let count = train.tops.len();
+        Bands { list, count, falling: list[..count].windows(2).all(|pair| pair[0].gain >= pair[1].gain) }
     }
 
+    /// Where the gains fall, the first band with its top above w gives the step, as long as it does not pass this top.
     fn step(&self, w: u32) -> u32 {
-        self.list[..self.count].iter().map(|band| (w + band.gain).min(band.most)).max().unwrap_or(0)
+        let bands = &self.list[..self.count];
+        if self.falling {
+            if let Some(band) = bands.iter().find(|band| w < band.most) {
+                if w + band.gain <= band.most {
+                    return w + band.gain;
+                }
+            }
+        }
+        bands.iter().map(|band| (w + band.gain).min(band.most)).max().unwrap_or(0)
     }
 }
 
@@ -104,15 +116,16 @@ fn sweep_forward(line: &Line, train: &Train, speeds: &mut [u32]) {
     let top = train.tops.last().unwrap_or(0);
     let mut under = Under::new(line, line.cells(train));
     let mut stops = Stops::new(train);
-    let mut reached = u32::MAX;
+    let mut before = u32::MAX;
     for (point, speed) in speeds.iter_mut().enumerate() {
         under.move_to(point);
         let cap = match stops.dwell_at(point) {
             Some(_) => 0,
             None => squared(under.lowest.min(top)),
         };
-        *speed = cap.min(reached);
-        reached = bands.step(*speed);
+        // a step never falls below a cap that is at most the speed before
+        before = if cap <= before { cap } else { cap.min(bands.step(before)) };
+        *speed = before;
     }
 }
 
@@ -129,12 +142,13 @@ fn write_arrivals(line: &Line, train: &Train, speeds: &[u32], times: &mut [u64])
     let distance = 720_000_000 * line.step as u64;
     let last = line.points - 1;
     let mut stops = Stops::new(train);
-    let mut root = u64::from(speeds[0]).isqrt();
+    let mut root = speeds[0].isqrt();
     let mut arrival = 0;
     for point in 0..last {
         times[point] = arrival;
-        let next_root = u64::from(speeds[point + 1]).isqrt();
-        arrival = stops.departure(point, last, arrival) + distance.div_ceil(root + next_root);
+        // equal squared speeds have the same root
+        let next_root = if speeds[point + 1] == speeds[point] { root } else { speeds[point + 1].isqrt() };
+        arrival = stops.departure(point, last, arrival) + distance.div_ceil(u64::from(root + next_root));
         root = next_root;
     }
     times[last] = arrival;
@@ -152,5 +166,5 @@ pub fn write_run(line: &Line, train: &Train, speeds: &mut [u32], times: &mut [u6
 
 pub fn run(file: &[u8], k: u64, speeds: &mut [u32], times: &mut [u64]) -> Result<(), Refusal> {
     let line = Line::open(file)?;
-    write_run(&line, line.train(k)?, speeds, times)
+    write_run(&line, &line.train(k)?, speeds, times)
 }

@@ -37,7 +37,7 @@ pub fn rows(file: &[u8], starts: &mut [u64], runs: &mut [u64], blocks: &mut [u64
     let mut times = [0; MOST_POINTS];
     let mut sheet = Sheet::open(line.block_ends.len() as u64)?;
     for (k, train) in line.trains.iter().enumerate() {
-        let hold = hold_on(&line, train, &mut speeds, &mut times)?;
+        let hold = hold_on(&line, &train, &mut speeds, &mut times)?;
         (starts[k], blocks[k]) = sheet.add(&hold)?;
         runs[k] = times[line.points - 1];
     }
