@@ -4,6 +4,7 @@ pub mod Lowest
 pub mod Limits
 pub mod Sweeping
 pub mod Digits
+pub mod RootsMet
 pub mod Rows
 pub mod Arriving
 pub mod Answers

@@ -2,8 +2,9 @@
 use values::Speed;
 use values::SquaredSpeed;
 ghost use mathlib.Core.Path.{_≡_};
-ghost use Prim.Native.Nat.{_≤_};
+ghost use Prim.Native.Nat.{_≤_, _<_};
 ghost use Rattle.rules.specs.Time.{root as rootOf};
+ghost use Rattle.run.specs.Roots.{RootsMet};
 
 // Digit by digit: each trial bit stays where the square keeps within w. The count of leading zeros gives the first.
 pub(crate) fn root(w: SquaredSpeed) -> Speed
@@ -22,13 +23,25 @@ pub(crate) fn root(w: SquaredSpeed) -> Speed
     Speed(r)
 }
 
-// The root of `next`, where the root of w is at hand.
-pub(crate) fn root_after(w: SquaredSpeed, r: Speed, next: SquaredSpeed) -> Speed
-    requires { ⌜ (r .0 ≡ rootOf (w .0)) × (r .0 ≤ 65535) ⌝ }
-    ensures { λ s. ⌜ (s .0 ≡ rootOf (next .0)) × (s .0 ≤ 65535) ⌝ }
+// Of 512 places for squared speeds met before, that of w. Squared speeds of a run lie far apart, so few of them share a place.
+fn place_of(w: SquaredSpeed) -> usize
+    ensures { λ r. ⌜ r < 512 ⌝ }
 {
-    if next.0 == w.0 {
-        return r;
+    (w.0 / 4099) as usize % 512
+}
+
+// The root of w: from the roots met before, or computed and kept there. `met` has the squared speed at each place, `roots` its root.
+pub(crate) fn root_met(met: &mut [u32], roots: &mut [u32], w: SquaredSpeed) -> Speed
+    requires { ⌜ RootsMet (now met) (now roots) ⌝ }
+    ensures { λ r. ⌜ (r .0 ≡ rootOf (w .0)) × (r .0 ≤ 65535) ⌝ }
+    ensures { λ _. ⌜ RootsMet (now (met .exit)) (now (roots .exit)) ⌝ }
+{
+    let place = place_of(w);
+    if met[place] == w.0 {
+        return Speed(roots[place]);
     }
-    root(next)
+    let found = root(w);
+    met[place] = w.0;
+    roots[place] = found.0;
+    found
 }

@@ -1,6 +1,6 @@
 // The running times: cell times and dwells added up from point to point.
 use crate::root::root;
-use crate::root::root_after;
+use crate::root::root_met;
 use stops::dwell_at;
 use stops::stop_from;
 use values::Line;
@@ -41,12 +41,14 @@ pub(crate) fn write_times(line: Line, train: Train, speeds: &[u32], times: &mut 
     let mut i = 0;
     let mut next = 0;
     let mut time = 0;
+    let mut met = [0u32; 512];
+    let mut roots = [0u32; 512];
     let mut here = root(SquaredSpeed(speeds[0]));
     while i < last {
         times[i] = time;
         next = stop_from(&stop_points, train.stop_count, next, i);
         let dwell = dwell_at(&stop_points, &dwells, train.stop_count, next, i);
-        let there = root_after(SquaredSpeed(speeds[i]), here, SquaredSpeed(speeds[i + 1]));
+        let there = root_met(&mut met, &mut roots, SquaredSpeed(speeds[i + 1]));
         time = time + dwell + cell_time(wide64(line.step), here, there);
         here = there;
         i += 1;

@@ -9,17 +9,19 @@ use Rattle.rules.proofs.Count.{length-row}
 use Rattle.values.specs.Values.{asLine, asTrain}
 use Rattle.stops.specs.Stops.{NextStop}
 use Rattle.stops.proofs.Passing.{next-here, dwell-here, behind-on}
+use Rattle.run.specs.Roots.{RootsMet}
+use Rattle.run.proofs.RootsMet.{met-none}
 use Rattle.run.proofs.Arriving.{Arrived, arrived-first, arrived-next, arrived-last, roots-move, clock-most}
 use borrow.Author.Needs.{needs}
 use Rattle.run.proofs.times.write_times.Statement.{statement}
 use Rattle.run.proofs.times.write_times.Tie as tie
 
 abbrev Inv-loop : tie.InvT-loop
-Inv-loop line train speeds times₀ stop-points dwells last i₀ next₀ time₀ here₀ times i next time here =
-    Arrived (asLine line) (asTrain train) times₀ i next time (here .0) times
+Inv-loop line train speeds times₀ stop-points dwells last i₀ next₀ time₀ met₀ roots₀ here₀ times i next time met roots here =
+    Arrived (asLine line) (asTrain train) times₀ i next time (here .0) times × RootsMet met roots
 
 abbrev μ-loop : tie.MeasureT-loop
-μ-loop line train speeds times₀ stop-points dwells last i₀ next₀ time₀ here₀ times i next time here =
+μ-loop line train speeds times₀ stop-points dwells last i₀ next₀ time₀ met₀ roots₀ here₀ times i next time met roots here =
     last - i
 
 abbrev in-loop : tie.After-dwell-at Inv-loop μ-loop → tie.In-loop Inv-loop μ-loop
@@ -27,6 +29,12 @@ in-loop c = c .before .before .before .before .before
 
 abbrev start : tie.In-loop Inv-loop μ-loop → tie.Start Inv-loop μ-loop
 start c = c .before .before .before .before .before .before .before .before .before
+
+abbrev rooted : tie.After-roots2 Inv-loop μ-loop → tie.After-root-met Inv-loop μ-loop
+rooted c = c .before .before
+
+abbrev dwelled : tie.After-root-met Inv-loop μ-loop → tie.After-dwell-at Inv-loop μ-loop
+dwelled c = c .before .before .before .before
 
 -- the point after this one is on the line, and its squared speed is the run's
 ahead : (c : tie.In-loop Inv-loop μ-loop) → c .before .loop .i + 1 < start c .args .line .points
@@ -37,10 +45,6 @@ speed-ahead :
     entry (start c .args .speeds .now) (c .before .loop .i + 1) ≡
     entry (runRow (asLine (start c .args .line)) (asTrain (start c .args .train))) (c .before .loop .i + 1)
 speed-ahead c = start c .pre .1 .1 (c .before .loop .i + 1) (ahead c)
-
--- the root at hand is that of this point's squared speed
-root-here : (c : tie.In-loop Inv-loop μ-loop) → c .before .loop .here .0 ≡ root (entry (start c .args .speeds .now) (c .before .loop .i))
-root-here c = c .before .loop .inv .speed ∙ ap root (sym (start c .pre .1 .1 (c .before .loop .i) (omega (arith, ahead c))))
 
 -- the stops in use
 few : (c : tie.In-loop Inv-loop μ-loop) → start c .args .train .«stop_count» ≤ 64
@@ -54,7 +58,7 @@ next-stop :
     NextStop (asTrain (start (in-loop c) .args .train) .stops) (c .before .before .before .stop-from .result) (in-loop c .before .loop .i)
 next-stop c =
     let o = in-loop c in
-    next-here (start o .args .train .stops) (few o) (start o .pre .0 .rule8 .apart) (o .before .loop .inv .stop) (c .before .before .before .stop-from .ensures)
+    next-here (start o .args .train .stops) (few o) (start o .pre .0 .rule8 .apart) (o .before .loop .inv .0 .stop) (c .before .before .before .stop-from .ensures)
 
 dwelt :
     (c : tie.After-dwell-at Inv-loop μ-loop) →
@@ -62,7 +66,7 @@ dwelt :
 dwelt c =
     let o = in-loop c in
     let train = start o .args .train in
-    dwell-here (train .stops) (few o) (start o .pre .0 .rule8 .apart) (o .before .loop .inv .stop) (c .before .before .before .stop-from .ensures)
+    dwell-here (train .stops) (few o) (start o .pre .0 .rule8 .apart) (o .before .loop .inv .0 .stop) (c .before .before .before .stop-from .ensures)
     (asLine (start o .args .line)) (asTrain train) (train .dwells) refl refl (omega (arith, ahead o)) (c .dwell-at .ensures)
 
 size-requires : tie.Need-size-requires Inv-loop μ-loop
@@ -71,16 +75,18 @@ size-requires c κs = search needs
 sub-last : tie.Need-sub-last Inv-loop μ-loop
 sub-last c = search needs
 
-shared-slice-read-t16 : tie.Need-shared-slice-read-t16 Inv-loop μ-loop
-shared-slice-read-t16 c = search needs
+shared-slice-read-t18 : tie.Need-shared-slice-read-t18 Inv-loop μ-loop
+shared-slice-read-t18 c = search needs
 
 root-requires : tie.Need-root-requires Inv-loop μ-loop
 root-requires c κs = search needs
 
 loop-holds : tie.Need-loop-holds Inv-loop μ-loop
 loop-holds c =
-    let a = c .before .before .before .before .before .before .before in
-    arrived-first _ _ (a .pre .0) (c .root .ensures .0) (a .pre .1 .1 0 (omega (arith, a .pre .0 .rule3Line .points-least))) (c .root .ensures .1)
+    let a = c .before .before .before .before .before .before .before in (
+      arrived-first _ _ (a .pre .0) (c .root .ensures .0) (a .pre .1 .1 0 (omega (arith, a .pre .0 .rule3Line .points-least))) (c .root .ensures .1),
+      met-none,
+    )
 
 mul-times : tie.Need-mul-times Inv-loop μ-loop
 mul-times c = search needs
@@ -94,57 +100,56 @@ stop-from-requires c κs = search needs
 dwell-at-requires : tie.Need-dwell-at-requires Inv-loop μ-loop
 dwell-at-requires c κs = search needs
 
-mul-t19 : tie.Need-mul-t19 Inv-loop μ-loop
-mul-t19 c = search needs
+slice-aggregate-root-met : tie.Need-slice-aggregate-root-met Inv-loop μ-loop
+slice-aggregate-root-met c = search needs
 
-shared-slice-read-t25 : tie.Need-shared-slice-read-t25 Inv-loop μ-loop
-shared-slice-read-t25 c = search needs
+slice-aggregate-root-met-2 : tie.Need-slice-aggregate-root-met-2 Inv-loop μ-loop
+slice-aggregate-root-met-2 c = search needs
 
-add-t27 : tie.Need-add-t27 Inv-loop μ-loop
-add-t27 c = search needs
+add-t21 : tie.Need-add-t21 Inv-loop μ-loop
+add-t21 c = search needs
 
-mul-t28 : tie.Need-mul-t28 Inv-loop μ-loop
-mul-t28 c = search needs
+mul-t30 : tie.Need-mul-t30 Inv-loop μ-loop
+mul-t30 c = search needs
 
-shared-slice-read-t30 : tie.Need-shared-slice-read-t30 Inv-loop μ-loop
-shared-slice-read-t30 c = search needs
+shared-slice-read-t32 : tie.Need-shared-slice-read-t32 Inv-loop μ-loop
+shared-slice-read-t32 c = search needs
 
-root-after-requires : tie.Need-root-after-requires Inv-loop μ-loop
-root-after-requires c κs =
-    let o = in-loop (c .before .before) in
-    (root-here o, o .before .loop .inv .slow)
+root-met-requires : tie.Need-root-met-requires Inv-loop μ-loop
+root-met-requires c κs = search needs
 
 add-time : tie.Need-add-time Inv-loop μ-loop
 add-time c =
-    let d = c .before .before .before in
+    let r = rooted c in
+    let d = dwelled r in
     let o = in-loop d in
-    omega (arith, clock-most _ _ (start o .pre .0) (o .before .loop .inv) (ahead o) (c .root-after .ensures .0) (speed-ahead o) (dwelt d) refl refl)
+    omega (arith, clock-most _ _ (start o .pre .0) (o .before .loop .inv .0) (ahead o) (r .root-met .ensures .0 .0) (speed-ahead o) (dwelt d) refl refl)
 
 wide64-requires : tie.Need-wide64-requires Inv-loop μ-loop
 wide64-requires c κs = search needs
 
 cell-time-requires : tie.Need-cell-time-requires Inv-loop μ-loop
 cell-time-requires c κs =
-    let r = c .before in
-    let o = in-loop (r .before .before .before) in
+    let r = rooted (c .before) in
+    let o = in-loop (dwelled r) in
     omega (
       arith,
       start o .pre .0 .rule3Line .step-most,
       c .wide64 .ensures .0,
-      o .before .loop .inv .slow,
-      r .root-after .ensures .1,
-      roots-move _ _ (start o .pre .0) (o .before .loop .inv) (ahead o) (r .root-after .ensures .0) (speed-ahead o),
+      o .before .loop .inv .0 .slow,
+      r .root-met .ensures .0 .1,
+      roots-move _ _ (start o .pre .0) (o .before .loop .inv .0) (ahead o) (r .root-met .ensures .0 .0) (speed-ahead o),
     )
 
 add-time-2 : tie.Need-add-time-2 Inv-loop μ-loop
 add-time-2 c =
     let w = c .before in
-    let r = w .before in
-    let d = r .before .before .before in
+    let r = rooted (w .before) in
+    let d = dwelled r in
     let o = in-loop d in
     omega (
       arith,
-      clock-most _ _ (start o .pre .0) (o .before .loop .inv) (ahead o) (r .root-after .ensures .0) (speed-ahead o) (dwelt d) (w .wide64 .ensures .0)
+      clock-most _ _ (start o .pre .0) (o .before .loop .inv .0) (ahead o) (r .root-met .ensures .0 .0) (speed-ahead o) (dwelt d) (w .wide64 .ensures .0)
           (c .cell-time .ensures),
     )
 
@@ -157,11 +162,13 @@ loop-less c = search needs
 loop-again : tie.Need-loop-again Inv-loop μ-loop
 loop-again c =
     let w = c .before in
-    let r = w .before in
-    let d = r .before .before .before in
-    let o = in-loop d in
-    arrived-next _ _ (start o .pre .0) (o .before .loop .inv) (ahead o) (r .root-after .ensures .0) (speed-ahead o) (dwelt d) (w .wide64 .ensures .0)
-    (c .cell-time .ensures) (r .root-after .ensures .1) (behind-on (next-stop d) (omega arith)) (start o .pre .1 .0 .1)
+    let r = rooted (w .before) in
+    let d = dwelled r in
+    let o = in-loop d in (
+      arrived-next _ _ (start o .pre .0) (o .before .loop .inv .0) (ahead o) (r .root-met .ensures .0 .0) (speed-ahead o) (dwelt d) (w .wide64 .ensures .0)
+          (c .cell-time .ensures) (r .root-met .ensures .0 .1) (behind-on (next-stop d) (omega arith)) (start o .pre .1 .0 .1),
+      r .root-met .ensures .1,
+    )
 
 mul-times-2 : tie.Need-mul-times-2 Inv-loop μ-loop
 mul-times-2 c = search needs
@@ -170,13 +177,13 @@ slice-write-times-2 : tie.Need-slice-write-times-2 Inv-loop μ-loop
 slice-write-times-2 c = search needs
 
 same-length : tie.Need-same-length Inv-loop μ-loop
-same-length c = simp length-set (c .before .loop .inv .filled .long)
+same-length c = simp length-set (c .before .loop .inv .0 .filled .long)
 
 returns : tie.Need-returns Inv-loop μ-loop
 returns c =
     let s = c .before .before .before .before in
     let a = s .before .before .before .before .before in
-    arrived-last _ _ (a .pre .0) (c .before .loop .inv) (omega (arith, s .size .ensures .0)) (a .pre .1 .0 .1)
+    arrived-last _ _ (a .pre .0) (c .before .loop .inv .0) (omega (arith, s .size .ensures .0)) (a .pre .1 .0 .1)
 
 pub write-times-spec : {M : Type 1} → statement M
 write-times-spec =
@@ -186,19 +193,19 @@ write-times-spec =
     μ-loop
     size-requires
     sub-last
-    shared-slice-read-t16
+    shared-slice-read-t18
     root-requires
     loop-holds
     mul-times
     slice-write-times
     stop-from-requires
     dwell-at-requires
-    mul-t19
-    shared-slice-read-t25
-    add-t27
-    mul-t28
-    shared-slice-read-t30
-    root-after-requires
+    slice-aggregate-root-met
+    slice-aggregate-root-met-2
+    add-t21
+    mul-t30
+    shared-slice-read-t32
+    root-met-requires
     add-time
     wide64-requires
     cell-time-requires
