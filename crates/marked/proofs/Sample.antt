@@ -128,8 +128,8 @@ unfolding bytes sampleLine sampleTrain sampleWith sample middleLine middleTrain 
     capOf cap bandStep bandsStep tractionStep forwardSweep backwardBefore backwardSweep forward runAt runRow nextDigit rootDigits root cellTime dwellFrom
     dwell arrival departure arrivals approachPoint holdBegin holdEnd holdWith fresh leastStart blockNamed released sheetAfter firstBroken refusal whole
     nothingAfter lineSizes trainSizes limitPointsRule limitsRule blocksRule bandsRule stopsRule lastBlockRule decided trainThere buffersLong sheetRule holdRule
-    fileRefusal trainRefusal trainRecord runRefusal held added opened headway answers digitsOf decimal field header trainLine refusalText joined holdsFrom fileAnswers
-    runningTime lineOfTrain sheetText programText
+    fileRefusal trainRefusal trainRecord runRefusal held added opened headway answers digitsOf decimal field header trainLine refusalText joined holdsFrom
+    fileAnswers runningTime lineOfTrain sheetText programText
 tables = (
   record {
     m1 = refl;

@@ -101,13 +101,15 @@ module _ (file : List ℕ) (ok : fileRefusal file ≡ 0) where
     module _ (buffer : List ℕ) where
       pub study-answer :
           {x : WriteAnswer} →
-          x ≡ writeAnswer (sheetRefusal (take t starts) (take t runs) (take t blocks) (length buffer)) (rowsText (take t starts) (take t runs) (take t blocks)) →
+          x ≡ writeAnswer (sheetRefusal (take t starts) (take t runs) (take t blocks) (length buffer))
+          (rowsText (take t starts) (take t runs) (take t blocks)) →
           x ≡ writeAnswer (studyRefusal file (length buffer)) (sheetText file)
       study-answer f = f ∙ rw (columns .0, columns .1, columns .2, sheet-number (length buffer), rows-text)
 
       pub study-bytes :
           {after : List ℕ} →
-          after ≡ lentAfter (sheetRefusal (take t starts) (take t runs) (take t blocks) (length buffer)) (rowsText (take t starts) (take t runs) (take t blocks)) buffer →
+          after ≡ lentAfter (sheetRefusal (take t starts) (take t runs) (take t blocks) (length buffer))
+          (rowsText (take t starts) (take t runs) (take t blocks)) buffer →
           after ≡ lentAfter (studyRefusal file (length buffer)) (sheetText file) buffer
       study-bytes f = f ∙ rw (columns .0, columns .1, columns .2, sheet-number (length buffer), rows-text)
 

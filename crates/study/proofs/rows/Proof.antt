@@ -80,7 +80,9 @@ returns-3 c =
     let n = rows-long (a .file .now) (length (a .starts .now)) (length (a .runs .now)) (length (a .blocks .now)) ok (omega (arith, trains, long, least)) in
     let e = w .write-rows .ensures in
     let r = accepted-with (a .file .now) (a .starts .now) (a .runs .now) (a .blocks .now) n trains (e .0) (e .1) (e .2) in
-    (r .0, (r .1, (r .2, (r .3, λ z. rw (column-taken _ _ (a .starts .now) (e .0)) (least-for-file (a .file .now) ok (λ i. omega (arith, o .before .before .before .before .shared-slice-known .given i)))))))
+    let bytes = o .before .before .before .before .shared-slice-known .given in
+    let least-starts = least-for-file (a .file .now) ok (λ i. omega (arith, bytes i)) in
+    (r .0, (r .1, (r .2, (r .3, λ z. rw (column-taken _ _ (a .starts .now) (e .0)) least-starts))))
 
 pub rows-spec : {M : Type 1} → statement M
 rows-spec =

@@ -79,8 +79,9 @@ time-train-requires c κs =
     let o = c .before .before .before in
     let s = start o in
     let i = o .before .before .loop .inv in
-    let m = points-most _ (s .pre .0 .0) (line o) in
-    ((next-admitted _ (s .pre .0 .0) (i .0) (more o) (line o), next-decodes _ (s .pre .0 .0) (i .0) (more o) (line o)), (omega (arith, i .1 .0), omega (arith, i .1 .1)))
+    let ok = s .pre .0 .0 in
+    let m = points-most _ ok (line o) in
+    ((next-admitted _ ok (i .0) (more o) (line o), next-decodes _ ok (i .0) (more o) (line o)), (omega (arith, i .1 .0), omega (arith, i .1 .1)))
 
 with-hold-requires : tie.Need-with-hold-requires Inv-loop μ-loop
 with-hold-requires c κs = search needs

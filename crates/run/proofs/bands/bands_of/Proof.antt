@@ -87,9 +87,10 @@ gains-fall-requires c κs = search needs
 returns : tie.Need-returns Inv-loop μ-loop
 returns c =
     let o = c .before .before .before .loop in
+    let step = c .before .before .before .before .wide .ensures .0 in
     record {
       count = sym (length-row _ _);
-      gain = λ k h. o .inv .2 .inside k (omega arith) (omega arith) ∙ ap₂ change (sym (entry-row _ _ k h)) (c .before .before .before .before .wide .ensures .0);
+      gain = λ k h. o .inv .2 .inside k (omega arith) (omega arith) ∙ ap₂ change (sym (entry-row _ _ k h)) step;
       square = λ k h. o .inv .3 .inside k (omega arith) (omega arith) ∙ ap squared (sym (entry-row _ _ k h));
       falls = c .gains-fall .ensures;
     }

@@ -28,8 +28,9 @@ returns : tie.Need-returns
 returns c =
     let found = c .before .before .before .before .before in
     let s = found .before .before in
-    band-gives (s .args .count) (s .args .gains .now) (s .args .squares .now) (s .args .w .0) (found .band-above .result) (s .pre .2 (found .before .if1 .taken))
-    (omega arith) (found .band-above .ensures .1) (omega (arith, c .if3 .taken))
+    let falls = s .pre .2 (found .before .if1 .taken) in
+    band-gives (s .args .count) (s .args .gains .now) (s .args .squares .now) (s .args .w .0) (found .band-above .result) falls (omega arith)
+    (found .band-above .ensures .1) (omega (arith, c .if3 .taken))
 
 greatest-part-requires : tie.Need-greatest-part-requires
 greatest-part-requires c κs = search needs

@@ -58,7 +58,8 @@ next-stop :
     NextStop (asTrain (start (in-loop c) .args .train) .stops) (c .before .before .before .stop-from .result) (in-loop c .before .loop .i)
 next-stop c =
     let o = in-loop c in
-    next-here (start o .args .train .stops) (few o) (start o .pre .0 .rule8 .apart) (o .before .loop .inv .0 .stop) (c .before .before .before .stop-from .ensures)
+    let s = start o in
+    next-here (s .args .train .stops) (few o) (s .pre .0 .rule8 .apart) (o .before .loop .inv .0 .stop) (c .before .before .before .stop-from .ensures)
 
 dwelt :
     (c : tie.After-dwell-at Inv-loop μ-loop) →
