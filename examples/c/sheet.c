@@ -23,9 +23,9 @@ int main(int argc, char **argv)
     size_t len = fread(file, 1, sizeof file, in);
     fclose(in);
 
-    vr_rows_answer answer = vr_rows(file, len, starts, VR_MOST_TRAINS, runs, VR_MOST_TRAINS, blocks, VR_MOST_TRAINS);
-    if (len > MOST_BYTES)
-        answer.number = VR_REFUSED_BYTES_BEHIND;
+    vr_rows_answer answer = {VR_REFUSED_BYTES_BEHIND, 0};
+    if (len <= MOST_BYTES)
+        answer = vr_rows(file, len, starts, VR_MOST_TRAINS, runs, VR_MOST_TRAINS, blocks, VR_MOST_TRAINS);
     if (answer.number != VR_ACCEPTED) {
         printf("refused %" PRIu64 "\n", answer.number);
         return 0;

@@ -231,20 +231,29 @@ module _ (file : List ℕ) where
       let (y, x) = append-accepted (fileRules file) (rule 10 (trainThere file k) ∷ []) file-positive z in
       (y, ltb-true k (trainCount file) (head-accepted 10 (trainThere file k) [] (omega arith) x .0))
 
-  -- the file's rules come first, then 10, then 11
+  -- the file's rules come first, then others
+  pub file-first : (others : List Rule) → (fileRefusal file ≡ 0 → ⊥) → refusal (fileRules file ++ others) ≡ fileRefusal file
+  unfolding fileRefusal
+  file-first others h = append-refused (fileRules file) others file-positive h
+
+  pub file-passed : (others : List Rule) → fileRefusal file ≡ 0 → refusal (fileRules file ++ others) ≡ refusal others
+  unfolding fileRefusal
+  file-passed others z = append-kept (fileRules file) others file-positive z
+
+  -- 10, then 11
   pub train-refused : (k : ℕ) → (fileRefusal file ≡ 0 → ⊥) → trainRefusal file k ≡ fileRefusal file
-  unfolding fileRefusal trainRefusal
-  train-refused k h = append-refused (fileRules file) (rule 10 (trainThere file k) ∷ []) file-positive h
+  unfolding trainRefusal
+  train-refused k h = file-first (rule 10 (trainThere file k) ∷ []) h
 
   pub train-missing : (k : ℕ) → fileRefusal file ≡ 0 → trainCount file ≤ k → trainRefusal file k ≡ 10
-  unfolding fileRefusal trainRefusal trainThere
+  unfolding trainRefusal trainThere
   train-missing k z h =
-      append-kept (fileRules file) (rule 10 (trainThere file k) ∷ []) file-positive z ∙ head-broken 10 _ [] (le-ltb k (trainCount file) h)
+      file-passed (rule 10 (trainThere file k) ∷ []) z ∙ head-broken 10 _ [] (le-ltb k (trainCount file) h)
 
   pub train-there : (k : ℕ) → fileRefusal file ≡ 0 → k < trainCount file → trainRefusal file k ≡ 0
-  unfolding fileRefusal trainRefusal trainThere
+  unfolding trainRefusal trainThere
   train-there k z h =
-      append-kept (fileRules file) (rule 10 (trainThere file k) ∷ []) file-positive z ∙ head-kept 10 _ [] (lt-ltb k (trainCount file) h) ∙ refusal-none
+      file-passed (rule 10 (trainThere file k) ∷ []) z ∙ head-kept 10 _ [] (lt-ltb k (trainCount file) h) ∙ refusal-none
 
   pub run-refused : (k speeds times : ℕ) → (trainRefusal file k ≡ 0 → ⊥) → runRefusal file k speeds times ≡ trainRefusal file k
   unfolding trainRefusal runRefusal

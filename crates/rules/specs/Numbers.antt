@@ -61,6 +61,7 @@ runCallChecks file k speeds times =
 
 -- ---- the rules of the sheet
 
+-- 12, of the block count to open with
 abbrev pub openingChecks : ℕ → List Check
 openingChecks n = check 12 ((1 ≤ n) × (n ≤ 32)) ∷ []
 
@@ -68,5 +69,6 @@ openingChecks n = check 12 ((1 ≤ n) × (n ≤ 32)) ∷ []
 abbrev pub holdChecks : ℕ → ℕ → Hold → List Check
 holdChecks trains n h = check 13 (trains ≡ 64 → ⊥) ∷ check 14 (Rule14 n h) ∷ []
 
+-- 12 to 14, of a sheet and a hold record with any contents
 abbrev pub addingChecks : Sheet → Hold → List Check
 addingChecks s h = check 12 (Rule12 s) ∷ holdChecks (s .trains) (s .blocks) h

@@ -23,7 +23,7 @@ pub(crate) fn root(w: SquaredSpeed) -> Speed
     Speed(r)
 }
 
-// Of 512 places for squared speeds met before, that of w. Squared speeds of a run lie far apart, so few of them share a place.
+// Of 512 places for squared speeds met before, that of w. Any place would do.
 fn place_of(w: SquaredSpeed) -> usize
     ensures { λ r. ⌜ r < 512 ⌝ }
 {

@@ -1,5 +1,5 @@
 -- The starts of an accepted file are the third demand's for its holds. Assumes nothing.
-use Prim.Native.Nat.{ℕ, zero, suc, _≤_, _<_}
+use Prim.Native.Nat.{ℕ, zero, suc, _<_}
 use mathlib.Core.List.{List, [], _∷_}
 use mathlib.Core.Option.{none}
 use mathlib.Core.Path.{_≡_, refl, sym, ap, _∙_}
@@ -7,7 +7,7 @@ use native.Mathlib.Omega.{arith}
 use lib.ListN.{length, getD}
 use lib.Seq.{ext-getD}
 use Rattle.rules.specs.Calls.{Answer, accepted, refused, fileRefusal}
-use Rattle.rules.specs.Count.{entry, row}
+use Rattle.rules.specs.Count.{entry}
 use Rattle.rules.specs.Demand.{answers, starts, trains, refusalOf, LeastStarts}
 use Rattle.rules.specs.File.{AreBytes, trainCount}
 use Rattle.rules.specs.Hold.{Hold}

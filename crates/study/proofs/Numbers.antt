@@ -14,11 +14,11 @@ use Rattle.rules.specs.Count.{_and_, orZero, row}
 use Rattle.rules.specs.File.{trainCount}
 use Rattle.rules.specs.Numbers.{AnswersBy}
 use Rattle.rules.specs.Refusal.{rule, refusal, decided, fileRules}
-use Rattle.rules.proofs.Accepted.{file-positive}
+use Rattle.rules.proofs.Accepted.{file-first, file-passed}
 use Rattle.rules.proofs.Calls.{lent-written, lent-kept}
 use Rattle.rules.proofs.Count.{length-row}
 use Rattle.rules.proofs.Numbers.{Judges, judges-none, judges-first, judges-file, both-kept, answers-by}
-use Rattle.rules.proofs.Refusal.{refusal-none, head-broken, head-kept, append-refused, append-kept}
+use Rattle.rules.proofs.Refusal.{refusal-none, head-broken, head-kept}
 use Rattle.rules.proofs.Written.{written-front}
 use Rattle.study.specs.declared.RowsAnswer.{RowsAnswer}
 use Rattle.study.specs.Rows.{startsOf, runsOf, blocksOf, rowsRefusal, rowsChecks, rowsAnswer}
@@ -54,13 +54,13 @@ module _ (file : List ℕ) (starts runs blocks : ℕ) where
   -- ---- the number that the code holds
 
   pub rows-refused : {n : ℕ} → n ≡ fileRefusal file → (n ≡ 0 → ⊥) → n ≡ rowsRefusal file starts runs blocks
-  unfolding rowsRefusal fileRefusal
-  rows-refused e h = e ∙ sym (append-refused (fileRules file) _ (file-positive file) (λ z. h (e ∙ z)))
+  unfolding rowsRefusal
+  rows-refused e h = e ∙ sym (file-first file (rule 11 long ∷ []) (λ z. h (e ∙ z)))
 
   module _ (ok : fileRefusal file ≡ 0) where
     by-length : rowsRefusal file starts runs blocks ≡ refusal (rule 11 long ∷ [])
-    unfolding rowsRefusal fileRefusal
-    by-length = append-kept (fileRules file) _ (file-positive file) ok
+    unfolding rowsRefusal
+    by-length = file-passed file (rule 11 long ∷ []) ok
 
     pub rows-short : min starts (min runs blocks) < trainCount file → 11 ≡ rowsRefusal file starts runs blocks
     rows-short h = sym (by-length ∙ head-broken 11 long [] (go long refl))

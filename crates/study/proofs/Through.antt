@@ -10,7 +10,7 @@ use Rattle.rules.specs.Calls.{Opening, Addition, written, opened, added, fileRe
 use Rattle.rules.specs.Count.{row}
 use Rattle.rules.specs.File.{trainCount, trainsAt, recordAt, recordSize, bandCount, stopCount}
 use Rattle.rules.specs.Hold.{Hold, holdOf}
-use Rattle.rules.specs.Line.{Line, Train, lineOf, trainAt, trainOf}
+use Rattle.rules.specs.Line.{Line, lineOf, trainAt, trainOf}
 use Rattle.rules.specs.Sheet.{Sheet, fresh}
 use Rattle.rules.specs.Text.{runningTime}
 use Rattle.rules.proofs.Accepted.{file-there, line-sizes, admitted}

@@ -7,19 +7,18 @@ use native.Mathlib.Decide.{decLt}
 use native.Mathlib.Nat.{zero-add}
 use native.Mathlib.Omega.{arith}
 use lib.ListN.{length, take, replicate, length-replicate, getD-replicate, List·getD-eq-default}
-use lib.Seq.{ext-getD, length-take-le, getD-take}
+use lib.Seq.{ext-getD}
 use lib.Dec.{eqb}
 use borrow.Author.Tests.{le-leb, eqb-true}
 use Rattle.rules.specs.Calls.{written, lentAfter, fileRefusal}
 use Rattle.rules.specs.Count.{entry, row, padded}
 use Rattle.rules.specs.File.{trainCount}
 use Rattle.rules.specs.Meaning.{IsWritten}
-use Rattle.rules.specs.Refusal.{fileRules}
 use Rattle.rules.specs.Text.{refusalText, lineOfTrain, runningTime, sheetText, programText}
-use Rattle.rules.proofs.Accepted.{file-positive, file-most, line-sizes}
+use Rattle.rules.proofs.Accepted.{file-first, file-passed, file-most, line-sizes}
 use Rattle.rules.proofs.Calls.{written-is, lent-written}
 use Rattle.rules.proofs.Count.{length-row, entry-row}
-use Rattle.rules.proofs.Refusal.{refusal-none, head-kept, append-refused, append-kept}
+use Rattle.rules.proofs.Refusal.{refusal-none, head-kept}
 use Rattle.rules.proofs.Room.{text-most}
 use Rattle.rules.proofs.Text.{text-accepted, text-refused, program-long, program-whole}
 use Rattle.rules.proofs.Written.{written-long}
@@ -35,12 +34,12 @@ use Rattle.study_text.specs.Study.{studyRefusal}
 
 module _ (file : List ℕ) (bytes : ℕ) where
   pub study-refused : {n : ℕ} → n ≡ fileRefusal file → (n ≡ 0 → ⊥) → n ≡ studyRefusal file bytes
-  unfolding studyRefusal fileRefusal
-  study-refused e h = e ∙ sym (append-refused (fileRules file) _ (file-positive file) (λ z. h (e ∙ z)))
+  unfolding studyRefusal
+  study-refused e h = e ∙ sym (file-first file _ (λ z. h (e ∙ z)))
 
   by-room : fileRefusal file ≡ 0 → studyRefusal file bytes ≡ roomRefusal (sheetText file) bytes
-  unfolding studyRefusal roomRefusal fileRefusal
-  by-room z = append-kept (fileRules file) _ (file-positive file) z
+  unfolding studyRefusal roomRefusal
+  by-room z = file-passed file _ z
 
 -- slices of 64 places are never too short
 pub in-64 : (file : List ℕ) {n : ℕ} → n ≡ rowsRefusal file 64 64 64 → n ≡ fileRefusal file

@@ -7,7 +7,7 @@ use native.Mathlib.Omega.{arith}
 use lib.Dec.{leb}
 use lib.ListN.{length}
 use borrow.Author.Tests.{leb-true, le-leb, lt-leb, ne-eqb}
-use Rattle.rules.specs.Calls.{written, lentAfter}
+use Rattle.rules.specs.Calls.{lentAfter}
 use Rattle.rules.proofs.Calls.{lent-written, lent-kept}
 use Rattle.rules.proofs.Refusal.{refusal-none, head-broken, head-kept, head-accepted}
 use Rattle.text.specs.Text.{writeAnswer, Placed, roomRefusal}

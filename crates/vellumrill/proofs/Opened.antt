@@ -19,10 +19,10 @@ module _ (blocks : ℕ) {o : Opening} (before : Sheet) (e : asOpening o ≡ call
   told : o .number ≡ calls.opened blocks .number
   told = ap (λ (x : calls.Opening). x .number) e
 
-  pub opened-fresh : o .number ≡ 0 → (o .number ≡ calls.opened blocks .number) × (asSheet (o .sheet) ≡ openedInto blocks before)
+  pub into-fresh : o .number ≡ 0 → (o .number ≡ calls.opened blocks .number) × (asSheet (o .sheet) ≡ openedInto blocks before)
   unfolding openedInto
-  opened-fresh z = (told, rw (eq-eqb (calls.opened blocks .number) 0 (sym told ∙ z)) (ap (λ (x : calls.Opening). x .sheet) e))
+  into-fresh z = (told, rw (eq-eqb (calls.opened blocks .number) 0 (sym told ∙ z)) (ap (λ (x : calls.Opening). x .sheet) e))
 
-  pub opened-kept : (o .number ≡ 0 → ⊥) → (o .number ≡ calls.opened blocks .number) × (before ≡ openedInto blocks before)
+  pub into-kept : (o .number ≡ 0 → ⊥) → (o .number ≡ calls.opened blocks .number) × (before ≡ openedInto blocks before)
   unfolding openedInto
-  opened-kept h = (told, rw (ne-eqb (calls.opened blocks .number) 0 (λ z. h (told ∙ z))))
+  into-kept h = (told, rw (ne-eqb (calls.opened blocks .number) 0 (λ z. h (told ∙ z))))

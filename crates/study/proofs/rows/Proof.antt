@@ -1,4 +1,3 @@
-use mathlib.Core.Path.{_≡_, _∙_}
 use native.Mathlib.Omega.{arith}
 use lib.ListN.{length}
 use Rattle.line.proofs.Opening.{file-number, file-accepted, file-trains}
