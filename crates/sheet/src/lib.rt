@@ -9,6 +9,7 @@ use block::block_named;
 use holds::HoldRecord;
 use refusal::adding_refusal;
 use refusal::count_kept;
+use refusal::refusal_number;
 use start::least_start;
 ghost use mathlib.Core.Path.{_≡_};
 ghost use Rattle.rules.specs.Calls as rules;
@@ -115,21 +116,14 @@ pub fn headway(first: HoldRecord, second: HoldRecord) -> HeadwayAnswer
         return HeadwayAnswer::Refused(opening.number);
     }
     let one = with_hold(opening.sheet, first);
-    let answer = one.answer;
-    match answer {
-        Answer::Accepted { start: _, block: _ } => start_on(one.sheet, second),
-        Answer::Refused(number) => HeadwayAnswer::Refused(number),
-    }
-}
-
-// The start on this sheet, or the number of refusal.
-fn start_on(sheet: Sheet, hold: HoldRecord) -> HeadwayAnswer
-    ensures { λ r. ⌜ asHeadwayAnswer r ≡ rules.startOrRefusal (rules.added (asSheet sheet) (asHold hold) .answer) ⌝ }
-{
-    let done = with_hold(sheet, hold);
-    let answer = done.answer;
-    match answer {
-        Answer::Accepted { start, block: _ } => HeadwayAnswer::Headway(start),
-        Answer::Refused(number) => HeadwayAnswer::Refused(number),
-    }
+    let earlier = one.answer;
+    let Answer::Accepted { start: _, block: _ } = earlier else {
+        return HeadwayAnswer::Refused(refusal_number(earlier));
+    };
+    let two = with_hold(one.sheet, second);
+    let later = two.answer;
+    let Answer::Accepted { start, block: _ } = later else {
+        return HeadwayAnswer::Refused(refusal_number(later));
+    };
+    HeadwayAnswer::Headway(start)
 }

@@ -1,13 +1,15 @@
 // Rules 12 to 14: tests that pass where a rule is kept, and the number of refusal.
+use crate::Answer;
 use crate::Sheet;
 use holds::HoldRecord;
 ghost use mathlib.Core.Path.{_≡_};
 ghost use Prim.Native.Nat.{_≤_};
 ghost use lib.Dec.{leb, ltb};
-ghost use Rattle.rules.specs.Count.{entry, every};
+ghost use Rattle.rules.specs.Count.{entry, orZero, every};
+ghost use Rattle.rules.specs.Demand.{refusalOf};
 ghost use Rattle.rules.specs.Refusal.{refusal, countRule, sheetRule, holdRule, addingRules};
 ghost use Rattle.holds.specs.Values.{asHold};
-ghost use Rattle.sheet.specs.Values.{asSheet};
+ghost use Rattle.sheet.specs.Values.{asSheet, asAnswer};
 
 const MOST_BLOCKS: u64 = 32;
 
@@ -108,4 +110,14 @@ pub(crate) fn adding_refusal(sheet: Sheet, hold: HoldRecord) -> u64
         return 14;
     }
     0
+}
+
+// The number of a refusal, and 0 of an accepted call.
+pub(crate) fn refusal_number(answer: Answer) -> u64
+    ensures { λ r. ⌜ r ≡ orZero (refusalOf (asAnswer answer)) ⌝ }
+{
+    match answer {
+        Answer::Accepted { start: _, block: _ } => 0,
+        Answer::Refused(number) => number,
+    }
 }

@@ -1,9 +1,9 @@
--- `headway`: the opening, then the first addition's answer by its case. Assumes nothing.
+-- `headway`: the opening, then each addition's answer by its case. Assumes nothing.
 use Prim.Native.Nat.{ℕ}
 use mathlib.Core.Path.{_≡_, ap}
 use borrow.Author.Needs.{needs}
 use borrow.Author.Tests.{eq-eqb, ne-eqb}
-use Rattle.rules.specs.Calls.{HeadwayAnswer, Opening, Addition, accepted, refused, noHeadway, startOrRefusal, opened, added, headway}
+use Rattle.rules.specs.Calls.{Opening, Addition, accepted, refused, headwayOf, noHeadway, opened, added, headway}
 use Rattle.rules.specs.Hold.{Hold}
 use Rattle.sheet.specs.Values.{asAnswer}
 use Rattle.sheet.proofs.headway.Statement.{statement}
@@ -20,11 +20,14 @@ module _ (first second : Hold) {opening : Opening} (e : opening ≡ opened (firs
     unfolding headway
     first-refused h = rw (← e, eq-eqb (opening .number) 0 z, ← f, h)
 
-    second-answer :
-        {start block : ℕ} → one .answer ≡ accepted start block → {r : HeadwayAnswer} → r ≡ startOrRefusal (added (one .sheet) second .answer) →
-        r ≡ headway first second
-    unfolding headway
-    second-answer g h = rw (← e, eq-eqb (opening .number) 0 z, ← f, g) h
+    module _ {start block : ℕ} (g : one .answer ≡ accepted start block) {two : Addition} (h : two ≡ added (one .sheet) second) where
+      second-refused : {n : ℕ} → two .answer ≡ refused n → noHeadway n ≡ headway first second
+      unfolding headway
+      second-refused k = rw (← e, eq-eqb (opening .number) 0 z, ← f, g, ← h, k)
+
+      second-start : {start block : ℕ} → two .answer ≡ accepted start block → headwayOf start ≡ headway first second
+      unfolding headway
+      second-start k = rw (← e, eq-eqb (opening .number) 0 z, ← f, g, ← h, k)
 
 open-sheet-requires : tie.Need-open-sheet-requires
 open-sheet-requires c κs = search needs
@@ -38,26 +41,52 @@ with-hold-requires c κs = search needs
 enum-told : tie.Need-enum-told
 enum-told c = search needs
 
-start-on-requires : tie.Need-start-on-requires
-start-on-requires c κs = search needs
+enum-told-2 : tie.Need-enum-told-2
+enum-told-2 c = search needs
 
-enum-known-answer : tie.Need-enum-known-answer
-enum-known-answer c = search needs
+refusal-number-requires : tie.Need-refusal-number-requires
+refusal-number-requires c κs = search needs
 
 returns-2 : tie.Need-returns-2
 returns-2 c =
+    let told = c .before .enum-told2 .given .1 in
     let one = c .before .before .before in
     let unless = one .before in
     let opening = unless .before .before in
-    second-answer _ _ (opening .open-sheet .ensures .0) (unless .if1 .left) (one .with-hold .ensures) (ap asAnswer (c .before .enum-told .given .1))
-    (c .start-on .ensures)
+    rw (c .refusal-number .ensures, told)
+    (first-refused _ _ (opening .open-sheet .ensures .0) (unless .if1 .left) (one .with-hold .ensures) (ap asAnswer told))
+
+with-hold-requires-2 : tie.Need-with-hold-requires-2
+with-hold-requires-2 c κs = search needs
+
+enum-known-later : tie.Need-enum-known-later
+enum-known-later c = search needs
+
+enum-told-3 : tie.Need-enum-told-3
+enum-told-3 c = search needs
+
+refusal-number-requires-2 : tie.Need-refusal-number-requires-2
+refusal-number-requires-2 c κs = search needs
 
 returns-3 : tie.Need-returns-3
 returns-3 c =
-    let one = c .before .before .before in
+    let told = c .before .enum-told3 .given .1 in
+    let two = c .before .before .before in
+    let one = two .before .before .before in
     let unless = one .before in
     let opening = unless .before .before in
-    first-refused _ _ (opening .open-sheet .ensures .0) (unless .if1 .left) (one .with-hold .ensures) (ap asAnswer (c .before .answer .given .1))
+    rw (c .refusal-number2 .ensures, told)
+    (second-refused _ _ (opening .open-sheet .ensures .0) (unless .if1 .left) (one .with-hold .ensures)
+    (ap asAnswer (two .before .enum-told .given .1)) (two .with-hold2 .ensures) (ap asAnswer told))
+
+returns-4 : tie.Need-returns-4
+returns-4 c =
+    let two = c .before .before .before in
+    let one = two .before .before .before in
+    let unless = one .before in
+    let opening = unless .before .before in
+    second-start _ _ (opening .open-sheet .ensures .0) (unless .if1 .left) (one .with-hold .ensures)
+    (ap asAnswer (two .before .enum-told .given .1)) (two .with-hold2 .ensures) (ap asAnswer (c .before .later .given .1))
 
 pub headway-spec : {M : Type 1} → statement M
 headway-spec =
@@ -67,7 +96,12 @@ headway-spec =
     returns
     with-hold-requires
     enum-told
-    start-on-requires
-    enum-known-answer
+    enum-told-2
+    refusal-number-requires
     returns-2
-    returns-3)
+    with-hold-requires-2
+    enum-known-later
+    enum-told-3
+    refusal-number-requires-2
+    returns-3
+    returns-4)
