@@ -16,7 +16,7 @@ use Rattle.rules.specs.Admitted.{Admitted}
 use Rattle.rules.specs.Meaning.{InForce, Covers, IsCapSpeed}
 use Rattle.rules.proofs.Count.{rises-far, lowest-le, lowest-each, lowest-greatest}
 use Rattle.rules.proofs.Cap.{train-cells, limit-is, limit-in-force, cap-speed-is}
-use Rattle.run.specs.Walk.{nextBegun}
+use Rattle.run.specs.Walk.{nextBegun, StaysUntil}
 
 -- the next limit has begun, or not
 pub next-cases :
@@ -32,6 +32,24 @@ next-cases P points count at c yes-begun not-begun = go (ltb (at + 1) count) (le
 
 pub next-below : (points : List ℕ) (count at c : ℕ) → at < count → nextBegun points count at c < count
 next-below points count at c h = next-cases (λ k. k < count) points count at c (λ p q. p) (λ p. h)
+
+-- before the points at which the next limits of the head and of the tail begin, both stay
+pub stays-until :
+    (points : List ℕ) {count n head tail by-head by-tail until : ℕ} → ((k : ℕ) → suc k < count → 0 < entry points (suc k)) →
+    (head + 1 < count → by-head ≡ entry points (head + 1)) → (tail + 1 < count → by-tail ≡ entry points (tail + 1)) → until ≤ by-head → until ≤ by-tail + n →
+    StaysUntil points count n head tail until
+stays-until points {count} {n} {head} {tail} positive p q g h =
+    record {
+      by-head = λ i l. not-begun head i (λ m. omega (arith, p m));
+      by-tail = λ i l. not-begun tail (i - n) (λ m. let s : suc tail ≡ tail + 1 = omega arith in omega (arith, q m, rw s at (positive tail (omega arith))));
+    }
+  where
+    not-begun : (at c : ℕ) → (at + 1 < count → c < entry points (at + 1)) → at ≡ nextBegun points count at c
+    not-begun at c later = next-cases (λ k. at ≡ k) points count at c (λ m b. absurd (omega (arith, later m))) (λ m. refl)
+
+-- before point 0 is no point
+pub stays-none : (points : List ℕ) (count n head tail : ℕ) → StaysUntil points count n head tail 0
+stays-none points count n head tail = record { by-head = λ i h. absurd (omega arith); by-tail = λ i h. absurd (omega arith) }
 
 -- ---- limits in force
 
@@ -108,6 +126,9 @@ module _ (l : Line) (t : Train) (a : Admitted l t) where
       }
 
   -- ---- the cap speed
+
+  pub cells-most : trainCells l t ≤ 4095
+  cells-most = omega (arith, a .rule9 .fits, a .rule3Line .points-most)
 
   cells-least : 1 ≤ trainCells l t
   cells-least = go (trainCells l t) (train-cells l t a .enough)

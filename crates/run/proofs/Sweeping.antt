@@ -72,6 +72,12 @@ module _ (line : decodedLine.Line) (train : decodedTrain.Train) (a : Admitted (a
       let s = length-row (entry (train .stops)) (train .«stop_count») in
       (omega (arith, a .rule3Line .limits-least), omega (arith, a .rule3Line .limits-most), omega (arith, a .rule3Train .stops-most), sym p, sym s)
 
+  -- every limit but the first begins after point 0
+  pub points-positive : (k : ℕ) → suc k < line .«limit_count» → 0 < entry (line .«limit_points») (suc k)
+  points-positive k h =
+      let c = counts in
+      omega (arith, a .rule4 .rise k (omega arith), entry-row (entry (line .«limit_points»)) (line .«limit_count») (suc k) h)
+
   -- the lowest limit by the array and by the list
   by-array : (top tail n : ℕ) → tail + n ≤ line .«limit_count» → lowestFrom (entry (l .limits)) top tail n ≡ lowestFrom (entry (line .limits)) top tail n
   by-array top tail n h = lowest-agree _ _ top tail n (λ k p q. entry-row (entry (line .limits)) (line .«limit_count») k (omega arith))

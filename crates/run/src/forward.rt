@@ -74,6 +74,7 @@ pub(crate) fn write_forward(line: Line, train: Train, speeds: &mut [u32])
         head: 0,
         tail: 0,
         lowest,
+        until: 0,
     };
     let mut next = 0;
     // The step from the greatest squared speed is at least any cap, so point 0 gets its cap.

@@ -31,7 +31,7 @@ fn place_of(w: SquaredSpeed) -> usize
 }
 
 // The root of w: from the roots met before, or computed and kept there. `met` has the squared speed at each place, `roots` its root.
-pub(crate) fn root_met(met: &mut [u32], roots: &mut [u32], w: SquaredSpeed) -> Speed
+fn root_met(met: &mut [u32], roots: &mut [u32], w: SquaredSpeed) -> Speed
     requires { ⌜ RootsMet (now met) (now roots) ⌝ }
     ensures { λ r. ⌜ (r .0 ≡ rootOf (w .0)) × (r .0 ≤ 65535) ⌝ }
     ensures { λ _. ⌜ RootsMet (now (met .exit)) (now (roots .exit)) ⌝ }
@@ -44,4 +44,22 @@ pub(crate) fn root_met(met: &mut [u32], roots: &mut [u32], w: SquaredSpeed) -> S
     met[place] = w.0;
     roots[place] = found.0;
     found
+}
+
+// The root of w, where `here` is that of the squared speed at hand.
+pub(crate) fn root_after(
+    met: &mut [u32],
+    roots: &mut [u32],
+    before: SquaredSpeed,
+    here: Speed,
+    w: SquaredSpeed,
+) -> Speed
+    requires { ⌜ RootsMet (now met) (now roots) × (here .0 ≡ rootOf (before .0)) × (here .0 ≤ 65535) ⌝ }
+    ensures { λ r. ⌜ (r .0 ≡ rootOf (w .0)) × (r .0 ≤ 65535) ⌝ }
+    ensures { λ _. ⌜ RootsMet (now (met .exit)) (now (roots .exit)) ⌝ }
+{
+    if w.0 == before.0 {
+        return here;
+    }
+    root_met(met, roots, w)
 }

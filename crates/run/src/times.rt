@@ -1,6 +1,6 @@
 // The running times: cell times and dwells added up from point to point.
 use crate::root::root;
-use crate::root::root_met;
+use crate::root::root_after;
 use stops::dwell_at;
 use stops::stop_from;
 use values::Line;
@@ -10,22 +10,45 @@ use values::Train;
 use widths::size;
 use widths::wide64;
 ghost use mathlib.Core.Path.{_≡_};
-ghost use Prim.Native.Nat.{ℕ, _+_, _<_, _≤_};
+ghost use Prim.Native.Nat.{ℕ, _+_, _*_, _<_, _≤_};
 ghost use lib.ListN.{length};
 ghost use Rattle.rules.specs.Admitted.{Admitted};
 ghost use Rattle.rules.specs.Calls.{written};
-ghost use Rattle.rules.specs.Count.{entry};
+ghost use Rattle.rules.specs.Count.{entry, ceilDiv};
 ghost use Rattle.rules.specs.Run.{runRow};
 ghost use Rattle.rules.specs.Time.{cellTime, runTimes};
 ghost use Rattle.values.specs.Values.{asLine, asTrain};
+ghost use Rattle.run.specs.Times.{IsCellTime};
 
-// In microseconds, over a step in m.
-fn cell_time(step: u64, p: Speed, q: Speed) -> u64
-    requires { ⌜ (step ≤ 100) × (p .0 ≤ 65535) × (q .0 ≤ 65535) × (0 < p .0 + q .0) ⌝ }
-    ensures { λ r. ⌜ r ≡ cellTime step (p .0) (q .0) ⌝ }
+// The time of a cell in microseconds, by the sum of its two roots. A sum of 0 stands for no cell.
+pub struct CellTime {
+    pub sum: u32,
+    pub time: u64,
+}
+
+// Over a step in m.
+fn cell_time(step: u64, sum: u32) -> u64
+    requires { ⌜ (step ≤ 100) × (sum ≤ 131070) × (0 < sum) ⌝ }
+    ensures { λ r. ⌜ r ≡ ceilDiv (720000000 * step) sum ⌝ }
 {
-    let sum = (p.0 + q.0) as u64;
-    (720000000 * step + (sum - 1)) / sum
+    let wide = sum as u64;
+    (720000000 * step + (wide - 1)) / wide
+}
+
+// The cell between roots p and q, which is the one before where the sum is the same.
+fn cell_after(step: u64, before: CellTime, p: Speed, q: Speed) -> CellTime
+    requires { ⌜ (step ≤ 100) × (p .0 ≤ 65535) × (q .0 ≤ 65535) × (0 < p .0 + q .0) ⌝ }
+    requires { ⌜ IsCellTime step before ⌝ }
+    ensures { λ r. ⌜ (r .time ≡ cellTime step (p .0) (q .0)) × IsCellTime step r ⌝ }
+{
+    let sum = p.0 + q.0;
+    if sum == before.sum {
+        return before;
+    }
+    CellTime {
+        sum,
+        time: cell_time(step, sum),
+    }
 }
 
 // Fills `times` with the arrivals of the run that `speeds` holds.
@@ -41,6 +64,7 @@ pub(crate) fn write_times(line: Line, train: Train, speeds: &[u32], times: &mut 
     let mut i = 0;
     let mut next = 0;
     let mut time = 0;
+    let mut cell = CellTime { sum: 0, time: 0 };
     let mut met = [0u32; 512];
     let mut roots = [0u32; 512];
     let mut here = root(SquaredSpeed(speeds[0]));
@@ -48,8 +72,10 @@ pub(crate) fn write_times(line: Line, train: Train, speeds: &[u32], times: &mut 
         times[i] = time;
         next = stop_from(&stop_points, train.stop_count, next, i);
         let dwell = dwell_at(&stop_points, &dwells, train.stop_count, next, i);
-        let there = root_met(&mut met, &mut roots, SquaredSpeed(speeds[i + 1]));
-        time = time + dwell + cell_time(wide64(line.step), here, there);
+        let ahead = SquaredSpeed(speeds[i + 1]);
+        let there = root_after(&mut met, &mut roots, SquaredSpeed(speeds[i]), here, ahead);
+        cell = cell_after(wide64(line.step), cell, here, there);
+        time = time + dwell + cell.time;
         here = there;
         i += 1;
     }

@@ -2,15 +2,17 @@
 use widths::size;
 use widths::wide;
 ghost use mathlib.Core.Path.{_≡_};
-ghost use Prim.Native.Nat.{_+_, _-_, _≤_, _<_, min};
+ghost use Prim.Native.Nat.{ℕ, suc, _+_, _-_, _≤_, _<_, min};
 ghost use Rattle.rules.specs.Count.{entry, lowestFrom};
-ghost use Rattle.run.specs.Walk.{nextBegun, IsNext};
+ghost use Rattle.run.specs.Walk.{nextBegun, StaysUntil, IsNext};
 
-// The limits from the tail's to the head's; `lowest` is the lowest of them and the last band's top, in km/h.
+// The limits from the tail's to the head's; `lowest` is the lowest of them and the last band's top, in km/h. They are the same at all points
+// before `until`.
 pub struct Covered {
     pub head: usize,
     pub tail: usize,
     pub lowest: u32,
+    pub until: usize,
 }
 
 // a less b, or 0 where b is greater.
@@ -54,7 +56,30 @@ pub(crate) fn lowest_limit(limits: &[u16; 64], top: u32, tail: usize, head: usiz
     lowest
 }
 
-// The limits that hold in the cells covered with the head at point i, from those at the point before. `n` is its length in cells.
+// The point at which the limit after limit `at` begins; beyond every point where there is none.
+fn next_point(points: &[u16; 64], count: usize, at: usize) -> usize
+    requires { ⌜ (at < count) × (count ≤ 64) ⌝ }
+    ensures { λ r. ⌜ (r ≤ 65536) × (at + 1 < count → r ≡ entry (now (points .entry)) (at + 1)) ⌝ }
+{
+    let next = at + 1;
+    if next < count {
+        return size(points[next]);
+    }
+    65536
+}
+
+// The first point at which the head or the tail passes into another limit.
+fn unchanged_until(points: &[u16; 64], count: usize, n: usize, head: usize, tail: usize) -> usize
+    requires { ⌜ (head < count) × (tail < count) × (count ≤ 64) × (n ≤ 65536) ⌝ }
+    requires { ⌜ ((k : ℕ) → suc k < count → 0 < entry (now points) (suc k)) ⌝ }
+    ensures { λ r. ⌜ StaysUntil (now (points .entry)) count n head tail r ⌝ }
+{
+    let by_head = next_point(points, count, head);
+    let by_tail = next_point(points, count, tail) + n;
+    if by_head < by_tail { by_head } else { by_tail }
+}
+
+// The limits that hold in the cells covered with the head at point i, from those at the point before. `n` is the train's length in cells.
 pub(crate) fn covered_at(
     points: &[u16; 64],
     limits: &[u16; 64],
@@ -64,20 +89,21 @@ pub(crate) fn covered_at(
     i: usize,
     covered: Covered,
 ) -> Covered
-    requires { ⌜ (covered .head < count) × (covered .tail < count) × (count ≤ 64) ⌝ }
+    requires { ⌜ (covered .head < count) × (covered .tail < count) × (count ≤ 64) × (n ≤ 65536) ⌝ }
     requires { ⌜ covered .lowest ≡ lowestFrom (entry (now limits)) top (covered .tail) (covered .head + 1 - covered .tail) ⌝ }
+    requires { ⌜ StaysUntil (now points) count n (covered .head) (covered .tail) (covered .until) ⌝ }
+    requires { ⌜ ((k : ℕ) → suc k < count → 0 < entry (now points) (suc k)) ⌝ }
     ensures { λ r. ⌜ IsNext (now (points .entry)) (now (limits .entry)) count top n i covered r ⌝ }
 {
+    if i < covered.until {
+        return covered;
+    }
     let head = next_begun(points, count, covered.head, i);
     let tail = next_begun(points, count, covered.tail, less(i, n));
-    if head == covered.head {
-        if tail == covered.tail {
-            return covered;
-        }
-    }
     Covered {
         head,
         tail,
         lowest: lowest_limit(limits, top, tail, head),
+        until: unchanged_until(points, count, n, head, tail),
     }
 }

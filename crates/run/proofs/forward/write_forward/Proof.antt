@@ -9,9 +9,11 @@ use Rattle.values.specs.Values.{asLine, asTrain}
 use Rattle.stops.specs.Stops.{Behind, NextStop}
 use Rattle.stops.proofs.Passing.{behind-first, next-here, here-listed, behind-on}
 use Rattle.run.specs.Traction.{IsBands}
-use Rattle.run.proofs.Limits.{IsCovered}
+use Rattle.run.specs.Walk.{StaysUntil}
+use Rattle.run.proofs.Limits.{IsCovered, stays-none, cells-most}
 use Rattle.run.proofs.Traction.{count-least, count-most, bands-bounded, traction-is, last-most}
-use Rattle.run.proofs.Sweeping.{Before, before-start, before-next, forward-at, cap-at, covered-most, counts, covered-ready, covered-begun, covered-on}
+use Rattle.run.proofs.Sweeping.{Before, before-start, before-next, forward-at, cap-at, covered-most, counts, points-positive, covered-ready, covered-begun}
+use Rattle.run.proofs.Sweeping.{covered-on}
 use borrow.Author.Needs.{needs}
 use Rattle.run.proofs.forward.write_forward.Statement.{statement}
 use Rattle.run.proofs.forward.write_forward.Tie as tie
@@ -24,6 +26,7 @@ Inv-loop line train speeds₀ points limit-points limits stop-points n top bands
     × Before (asLine line) (asTrain train) i (w .0)
     × (w .0 ≤ 900000000)
     × Filled (forward (asLine line) (asTrain train)) 0 i speeds₀ speeds
+    × StaysUntil limit-points (line .«limit_count») n (covered .head) (covered .tail) (covered .until)
 
 abbrev μ-loop : tie.MeasureT-loop
 μ-loop line train speeds₀ points limit-points limits stop-points n top bands gains squares lowest covered₀ next₀ w₀ i₀ speeds covered next w i =
@@ -104,6 +107,7 @@ loop-holds c =
       before-start _ _,
       omega arith,
       fill-none _ _ _,
+      stays-none _ _ _ _ _,
     )
 
 stop-from-requires : tie.Need-stop-from-requires Inv-loop μ-loop
@@ -145,7 +149,10 @@ covered-at-requires c κs =
     let s = start o in
     let r = covered-ready (s .args .line) (s .args .train) (s .pre .0) (o .before .loop .inv .1) in
     let n = counts (s .args .line) (s .args .train) (s .pre .0) in
-    ((r .0, r .1, n .1), rw (top o) (r .2))
+    let cells = begun o .before .before .train-cells .ensures in (
+      (r .0, r .1, n .1, omega (arith, cells, cells-most _ _ (s .pre .0))),
+      (rw (top o) (r .2), (o .before .loop .inv .6, points-positive (s .args .line) (s .args .train) (s .pre .0))),
+    )
 
 loop-less : tie.Need-loop-less Inv-loop μ-loop
 loop-less c = search needs
@@ -167,6 +174,7 @@ loop-again c =
       before-next _ _ (o .before .loop .i) v,
       omega (arith, here, cap-most _ _ p (o .before .loop .i), step .capped-step .ensures),
       fill-up (o .before .loop .inv .5) (omega arith) (add-one _) (omega (arith, on-line o, s .pre .1)) v,
+      c .covered-at .ensures .stays,
     )
 
 same-length : tie.Need-same-length Inv-loop μ-loop

@@ -1,15 +1,8 @@
 use mathlib.Core.Path.{refl}
 use Rattle.rules.specs.Count.{ceilDiv}
-use Rattle.rules.specs.Time.{cellTime}
 use borrow.Author.Needs.{needs}
 use Rattle.run.proofs.times.cell_time.Statement.{statement}
 use Rattle.run.proofs.times.cell_time.Tie as tie
-
-add-sum : tie.Need-add-sum
-add-sum c = search needs
-
-cast-sum : tie.Need-cast-sum
-cast-sum c = search needs
 
 mul-result : tie.Need-mul-result
 mul-result c = search needs
@@ -24,9 +17,8 @@ div-result : tie.Need-div-result
 div-result c = search needs
 
 returns : tie.Need-returns
-unfolding cellTime ceilDiv
+unfolding ceilDiv
 returns c = refl
 
 pub cell-time-spec : {M : Type 1} → statement M
-cell-time-spec =
-    tie.close (tie.spec add-sum cast-sum mul-result sub-result add-result div-result returns)
+cell-time-spec = tie.close (tie.spec mul-result sub-result add-result div-result returns)

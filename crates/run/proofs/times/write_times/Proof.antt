@@ -1,5 +1,5 @@
-use Prim.Native.Nat.{_+_, _-_, _≤_, _<_}
-use mathlib.Core.Path.{_≡_, refl}
+use Prim.Native.Nat.{_+_, _-_, _^_, _≤_, _<_}
+use mathlib.Core.Path.{_≡_, refl, sym, ap, _∙_}
 use native.Mathlib.Omega.{arith}
 use lib.ListN.{length-set}
 use Rattle.rules.specs.Count.{entry}
@@ -10,6 +10,7 @@ use Rattle.values.specs.Values.{asLine, asTrain}
 use Rattle.stops.specs.Stops.{NextStop}
 use Rattle.stops.proofs.Passing.{next-here, dwell-here, behind-on}
 use Rattle.run.specs.Roots.{RootsMet}
+use Rattle.run.specs.Times.{IsCellTime}
 use Rattle.run.proofs.RootsMet.{met-none}
 use Rattle.run.proofs.Arriving.{Arrived, arrived-first, arrived-next, arrived-last, roots-move, clock-most}
 use borrow.Author.Needs.{needs}
@@ -17,11 +18,11 @@ use Rattle.run.proofs.times.write_times.Statement.{statement}
 use Rattle.run.proofs.times.write_times.Tie as tie
 
 abbrev Inv-loop : tie.InvT-loop
-Inv-loop line train speeds times₀ stop-points dwells last i₀ next₀ time₀ met₀ roots₀ here₀ times i next time met roots here =
-    Arrived (asLine line) (asTrain train) times₀ i next time (here .0) times × RootsMet met roots
+Inv-loop line train speeds times₀ stop-points dwells last i₀ next₀ time₀ cell₀ met₀ roots₀ here₀ times i next time cell met roots here =
+    Arrived (asLine line) (asTrain train) times₀ i next time (here .0) times × RootsMet met roots × IsCellTime (line .step) cell
 
 abbrev μ-loop : tie.MeasureT-loop
-μ-loop line train speeds times₀ stop-points dwells last i₀ next₀ time₀ met₀ roots₀ here₀ times i next time met roots here =
+μ-loop line train speeds times₀ stop-points dwells last i₀ next₀ time₀ cell₀ met₀ roots₀ here₀ times i next time cell met roots here =
     last - i
 
 abbrev in-loop : tie.After-dwell-at Inv-loop μ-loop → tie.In-loop Inv-loop μ-loop
@@ -30,11 +31,11 @@ in-loop c = c .before .before .before .before .before
 abbrev start : tie.In-loop Inv-loop μ-loop → tie.Start Inv-loop μ-loop
 start c = c .before .before .before .before .before .before .before .before .before
 
-abbrev rooted : tie.After-roots2 Inv-loop μ-loop → tie.After-root-met Inv-loop μ-loop
-rooted c = c .before .before
+abbrev rooted : tie.After-wide64 Inv-loop μ-loop → tie.After-root-after Inv-loop μ-loop
+rooted c = c .before .before .before
 
-abbrev dwelled : tie.After-root-met Inv-loop μ-loop → tie.After-dwell-at Inv-loop μ-loop
-dwelled c = c .before .before .before .before
+abbrev dwelled : tie.After-root-after Inv-loop μ-loop → tie.After-dwell-at Inv-loop μ-loop
+dwelled c = c .before .before .before .before .before
 
 -- the point after this one is on the line, and its squared speed is the run's
 ahead : (c : tie.In-loop Inv-loop μ-loop) → c .before .loop .i + 1 < start c .args .line .points
@@ -76,8 +77,8 @@ size-requires c κs = search needs
 sub-last : tie.Need-sub-last Inv-loop μ-loop
 sub-last c = search needs
 
-shared-slice-read-t18 : tie.Need-shared-slice-read-t18 Inv-loop μ-loop
-shared-slice-read-t18 c = search needs
+shared-slice-read-t20 : tie.Need-shared-slice-read-t20 Inv-loop μ-loop
+shared-slice-read-t20 c = search needs
 
 root-requires : tie.Need-root-requires Inv-loop μ-loop
 root-requires c κs = search needs
@@ -87,6 +88,7 @@ loop-holds c =
     let a = c .before .before .before .before .before .before .before in (
       arrived-first _ _ (a .pre .0) (c .root .ensures .0) (a .pre .1 .1 0 (omega (arith, a .pre .0 .rule3Line .points-least))) (c .root .ensures .1),
       met-none,
+      λ h. absurd (omega arith),
     )
 
 mul-times : tie.Need-mul-times Inv-loop μ-loop
@@ -101,58 +103,66 @@ stop-from-requires c κs = search needs
 dwell-at-requires : tie.Need-dwell-at-requires Inv-loop μ-loop
 dwell-at-requires c κs = search needs
 
-slice-aggregate-root-met : tie.Need-slice-aggregate-root-met Inv-loop μ-loop
-slice-aggregate-root-met c = search needs
+add-t23 : tie.Need-add-t23 Inv-loop μ-loop
+add-t23 c = search needs
 
-slice-aggregate-root-met-2 : tie.Need-slice-aggregate-root-met-2 Inv-loop μ-loop
-slice-aggregate-root-met-2 c = search needs
+mul-t28 : tie.Need-mul-t28 Inv-loop μ-loop
+mul-t28 c = search needs
 
-add-t21 : tie.Need-add-t21 Inv-loop μ-loop
-add-t21 c = search needs
+shared-slice-read-t30 : tie.Need-shared-slice-read-t30 Inv-loop μ-loop
+shared-slice-read-t30 c = search needs
 
-mul-t30 : tie.Need-mul-t30 Inv-loop μ-loop
-mul-t30 c = search needs
+slice-aggregate-root-after : tie.Need-slice-aggregate-root-after Inv-loop μ-loop
+slice-aggregate-root-after c = search needs
 
-shared-slice-read-t32 : tie.Need-shared-slice-read-t32 Inv-loop μ-loop
-shared-slice-read-t32 c = search needs
+slice-aggregate-root-after-2 : tie.Need-slice-aggregate-root-after-2 Inv-loop μ-loop
+slice-aggregate-root-after-2 c = search needs
 
-root-met-requires : tie.Need-root-met-requires Inv-loop μ-loop
-root-met-requires c κs = search needs
+mul-t23 : tie.Need-mul-t23 Inv-loop μ-loop
+mul-t23 c = search needs
 
-add-time : tie.Need-add-time Inv-loop μ-loop
-add-time c =
-    let r = rooted c in
-    let d = dwelled r in
-    let o = in-loop d in
-    omega (arith, clock-most _ _ (start o .pre .0) (o .before .loop .inv .0) (ahead o) (r .root-met .ensures .0 .0) (speed-ahead o) (dwelt d) refl refl)
+shared-slice-read-t30-2 : tie.Need-shared-slice-read-t30-2 Inv-loop μ-loop
+shared-slice-read-t30-2 c = search needs
+
+root-after-requires : tie.Need-root-after-requires Inv-loop μ-loop
+root-after-requires c κs =
+    let o = in-loop (c .before .before .before .before) in
+    let here = o .before .loop .inv .0 in
+    (o .before .loop .inv .1, here .speed ∙ ap root (sym (start o .pre .1 .1 (o .before .loop .i) (here .point))), here .slow)
 
 wide64-requires : tie.Need-wide64-requires Inv-loop μ-loop
 wide64-requires c κs = search needs
 
-cell-time-requires : tie.Need-cell-time-requires Inv-loop μ-loop
-cell-time-requires c κs =
-    let r = rooted (c .before) in
+cell-after-requires : tie.Need-cell-after-requires Inv-loop μ-loop
+cell-after-requires c κs =
+    let r = rooted c in
     let o = in-loop (dwelled r) in
-    omega (
-      arith,
-      start o .pre .0 .rule3Line .step-most,
-      c .wide64 .ensures .0,
-      o .before .loop .inv .0 .slow,
-      r .root-met .ensures .0 .1,
-      roots-move _ _ (start o .pre .0) (o .before .loop .inv .0) (ahead o) (r .root-met .ensures .0 .0) (speed-ahead o),
+    let here = o .before .loop .inv .0 in
+    let step = c .wide64 .ensures .0 in (
+      (
+        omega (arith, start o .pre .0 .rule3Line .step-most, step),
+        here .slow,
+        r .root-after .ensures .0 .1,
+        roots-move _ _ (start o .pre .0) here (ahead o) (r .root-after .ensures .0 .0) (speed-ahead o),
+      ),
+      rw step (o .before .loop .inv .2),
     )
 
-add-time-2 : tie.Need-add-time-2 Inv-loop μ-loop
-add-time-2 c =
-    let w = c .before in
-    let r = rooted (w .before) in
+-- the arrival at the next point is far from the greatest number of 64 bits
+clock : (c : tie.After-cell-after Inv-loop μ-loop) →
+    in-loop (dwelled (rooted (c .before))) .before .loop .time + dwelled (rooted (c .before)) .dwell-at .result + c .cell-after .result .time < 2 ^ 43
+clock c =
+    let r = rooted (c .before) in
     let d = dwelled r in
     let o = in-loop d in
-    omega (
-      arith,
-      clock-most _ _ (start o .pre .0) (o .before .loop .inv .0) (ahead o) (r .root-met .ensures .0 .0) (speed-ahead o) (dwelt d) (w .wide64 .ensures .0)
-          (c .cell-time .ensures),
-    )
+    clock-most _ _ (start o .pre .0) (o .before .loop .inv .0) (ahead o) (r .root-after .ensures .0 .0) (speed-ahead o) (dwelt d) (c .before .wide64 .ensures .0)
+    (c .cell-after .ensures .0)
+
+add-time : tie.Need-add-time Inv-loop μ-loop
+add-time c = omega (arith, clock c)
+
+add-time-2 : tie.Need-add-time-2 Inv-loop μ-loop
+add-time-2 c = omega (arith, clock (c .before))
 
 add-i : tie.Need-add-i Inv-loop μ-loop
 add-i c = search needs
@@ -162,13 +172,15 @@ loop-less c = search needs
 
 loop-again : tie.Need-loop-again Inv-loop μ-loop
 loop-again c =
-    let w = c .before in
-    let r = rooted (w .before) in
+    let cell = c .before in
+    let step = cell .before .wide64 .ensures .0 in
+    let r = rooted (cell .before) in
     let d = dwelled r in
     let o = in-loop d in (
-      arrived-next _ _ (start o .pre .0) (o .before .loop .inv .0) (ahead o) (r .root-met .ensures .0 .0) (speed-ahead o) (dwelt d) (w .wide64 .ensures .0)
-          (c .cell-time .ensures) (r .root-met .ensures .0 .1) (behind-on (next-stop d) (omega arith)) (start o .pre .1 .0 .1),
-      r .root-met .ensures .1,
+      arrived-next _ _ (start o .pre .0) (o .before .loop .inv .0) (ahead o) (r .root-after .ensures .0 .0) (speed-ahead o) (dwelt d) step
+          (cell .cell-after .ensures .0) (r .root-after .ensures .0 .1) (behind-on (next-stop d) (omega arith)) (start o .pre .1 .0 .1),
+      r .root-after .ensures .1,
+      rw step at (cell .cell-after .ensures .1),
     )
 
 mul-times-2 : tie.Need-mul-times-2 Inv-loop μ-loop
@@ -194,22 +206,24 @@ write-times-spec =
     μ-loop
     size-requires
     sub-last
-    shared-slice-read-t18
+    shared-slice-read-t20
     root-requires
     loop-holds
     mul-times
     slice-write-times
     stop-from-requires
     dwell-at-requires
-    slice-aggregate-root-met
-    slice-aggregate-root-met-2
-    add-t21
-    mul-t30
-    shared-slice-read-t32
-    root-met-requires
-    add-time
+    add-t23
+    mul-t28
+    shared-slice-read-t30
+    slice-aggregate-root-after
+    slice-aggregate-root-after-2
+    mul-t23
+    shared-slice-read-t30-2
+    root-after-requires
     wide64-requires
-    cell-time-requires
+    cell-after-requires
+    add-time
     add-time-2
     add-i
     loop-less

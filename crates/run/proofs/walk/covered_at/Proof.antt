@@ -1,11 +1,36 @@
 use native.Mathlib.Omega.{arith}
 use Prim.Native.Nat.{_<_}
-use mathlib.Core.Path.{sym, ap, _∙_}
+use mathlib.Core.Path.{ap, _∙_}
 use Rattle.run.specs.Walk.{nextBegun}
 use Rattle.run.proofs.Limits.{next-below}
 use borrow.Author.Needs.{needs}
 use Rattle.run.proofs.walk.covered_at.Statement.{statement}
 use Rattle.run.proofs.walk.covered_at.Tie as tie
+
+abbrev start : tie.After-next-begun2 → tie.Start
+start c = c .before .before .before .before .before
+
+-- the head's and the tail's limits at point i are there
+head-below : (c : tie.After-next-begun2) → c .before .before .next-begun .result < start c .args .count
+head-below c =
+    let s = start c in
+    omega (arith, next-below (s .args .points .now) (s .args .count) (s .args .covered .head) (s .args .i) (s .pre .0 .0), c .before .before .next-begun .ensures)
+
+tail-below : (c : tie.After-next-begun2) → c .next-begun2 .result < start c .args .count
+tail-below c =
+    let s = start c in
+    omega (arith, next-below (s .args .points .now) (s .args .count) (s .args .covered .tail) (c .before .less .result) (s .pre .0 .1), c .next-begun2 .ensures)
+
+returns : tie.Need-returns
+returns c =
+    let s = c .before .before in
+    let stays = s .pre .1 .1 .0 in
+    record {
+      head = stays .by-head (s .args .i) (c .if1 .taken);
+      tail = stays .by-tail (s .args .i) (c .if1 .taken);
+      lowest = s .pre .1 .0;
+      stays = stays;
+    }
 
 next-begun-requires : tie.Need-next-begun-requires
 next-begun-requires c κs = search needs
@@ -16,36 +41,34 @@ less-requires c κs = search needs
 next-begun-requires-2 : tie.Need-next-begun-requires-2
 next-begun-requires-2 c κs = search needs
 
-returns : tie.Need-returns
-returns c =
-    record {
-      head = sym (c .before .before .if1 .taken) ∙ c .before .before .before .before .before .before .next-begun .ensures;
-      tail = sym (c .if2 .taken) ∙ c .before .before .before .before .next-begun2 .ensures ∙
-          ap (nextBegun _ _ _) (c .before .before .before .before .before .less .ensures);
-      lowest = c .before .before .before .before .before .before .before .pre .1;
-    }
-
 lowest-limit-requires : tie.Need-lowest-limit-requires
-lowest-limit-requires c κs =
-    let a = c .before .before .before .before .before .args in
-    let p : a .covered .head < a .count = c .before .before .before .before .before .pre .0 .0 in
-    omega (arith, next-below (a .points .now) (a .count) (a .covered .head) (a .i) p, c .before .before .before .before .next-begun .ensures)
+lowest-limit-requires c κs = omega (arith, head-below c, start c .pre .0 .2)
+
+unchanged-until-requires : tie.Need-unchanged-until-requires
+unchanged-until-requires c κs =
+    let n = c .before in
+    let s = start n in
+    ((head-below n, tail-below n, s .pre .0 .2, s .pre .0 .3), s .pre .1 .1 .1)
 
 returns-2 : tie.Need-returns-2
 returns-2 c =
+    let lowest = c .before in
+    let n = lowest .before in
     record {
-      head = c .before .before .before .before .before .next-begun .ensures;
-      tail = c .before .before .before .next-begun2 .ensures ∙ ap (nextBegun _ _ _) (c .before .before .before .before .less .ensures);
-      lowest = c .lowest-limit .ensures;
+      head = n .before .before .next-begun .ensures;
+      tail = n .next-begun2 .ensures ∙ ap (nextBegun _ _ _) (n .before .less .ensures);
+      lowest = lowest .lowest-limit .ensures;
+      stays = c .unchanged-until .ensures;
     }
 
 pub covered-at-spec : {M : Type 1} → statement M
 covered-at-spec =
     tie.close
     (tie.spec
+    returns
     next-begun-requires
     less-requires
     next-begun-requires-2
-    returns
     lowest-limit-requires
+    unchanged-until-requires
     returns-2)
