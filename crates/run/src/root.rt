@@ -6,19 +6,24 @@ ghost use Prim.Native.Nat.{_≤_, _<_};
 ghost use Rattle.rules.specs.Time.{root as rootOf};
 ghost use Rattle.run.specs.Roots.{RootsMet};
 
-// Digit by digit: each trial bit stays where the square keeps within w. The count of leading zeros gives the first.
+// Digit by digit: each trial bit stays where the square keeps within w. The count of leading zeros gives the first. `left` is what is left
+// of w after the square of the digits found; `r` is their root, shifted so that a trial is one sum.
 pub(crate) fn root(w: SquaredSpeed) -> Speed
     ensures { λ r. ⌜ (r .0 ≡ rootOf (w .0)) × (r .0 ≤ 65535) ⌝ }
 {
-    let square = w.0;
+    let digits = (33 - u32::leading_zeros(w.0)) / 2;
+    // 4^(digits - 1), or 0 where w is 0. 4^digits needs up to 33 bits.
+    let mut bit = ((1u64 << (2 * digits)) / 4) as u32;
     let mut r: u32 = 0;
-    let mut bits = (33 - u32::leading_zeros(square)) / 2;
-    while 0 < bits {
-        bits -= 1;
-        let trial = r + (1u32 << bits);
-        if trial * trial <= square {
-            r = trial;
+    let mut left = w.0;
+    while 0 < bit {
+        let trial = r + bit;
+        r = r / 2;
+        if trial <= left {
+            left -= trial;
+            r += bit;
         }
+        bit = bit / 4;
     }
     Speed(r)
 }

@@ -1,65 +1,53 @@
-use Prim.Native.Nat.{_+_, _-_, _*_, _%_, _^_, _≤_}
-use mathlib.Core.Path.{_≡_}
-use native.Mathlib.Nat.{mul-le-mul}
 use native.Mathlib.Omega.{arith}
+use mathlib.Core.Logic.{⊎-elim}
 use lib.Count.{leading-le}
-use Rattle.run.proofs.Digits.{Within, within-first, within-taken, within-left, within-last, one-shifted, trial-room}
+use Rattle.run.proofs.Digits.{Within, within-first, within-taken, within-left, within-last, bit-fits, trial-fits}
 use borrow.Author.Needs.{needs}
 use Rattle.run.proofs.root.root.Statement.{statement}
 use Rattle.run.proofs.root.root.Tie as tie
 
 abbrev Inv-loop : tie.InvT-loop
-Inv-loop square r₀ bits₀ r bits = Within square r bits
+Inv-loop digits bit₀ r₀ left₀ bit r left = Within left₀ bit r left
 
 abbrev μ-loop : tie.MeasureT-loop
-μ-loop square r₀ bits₀ r bits = bits
+μ-loop digits bit₀ r₀ left₀ bit r left = bit
 
-sub-bits : tie.Need-sub-bits Inv-loop μ-loop
-sub-bits c = omega (arith, leading-le 32 (c .args .w .0))
+sub-digits : tie.Need-sub-digits Inv-loop μ-loop
+sub-digits c = omega (arith, leading-le 32 (c .before .args .w .0))
+
+mul-bit : tie.Need-mul-bit Inv-loop μ-loop
+mul-bit c = search needs
+
+cast-bit : tie.Need-cast-bit Inv-loop μ-loop
+cast-bit c = search needs
+
+shl-bit : tie.Need-shl-bit Inv-loop μ-loop
+shl-bit c = search needs
+
+cast-bit-2 : tie.Need-cast-bit-2 Inv-loop μ-loop
+cast-bit-2 c = omega (arith, bit-fits (within-first (c .before .args .w .0) (search needs)))
 
 loop-holds : tie.Need-loop-holds Inv-loop μ-loop
-loop-holds c = within-first (c .args .w .0) (search needs)
-
-sub-bits-2 : tie.Need-sub-bits-2 Inv-loop μ-loop
-sub-bits-2 c = search needs
-
--- the trial bit, and the trial
-bit : (c : tie.In-loop Inv-loop μ-loop) → (1 * 2 ^ (c .before .loop .bits - 1)) % 2 ^ 32 ≡ 2 ^ (c .before .loop .bits - 1)
-bit c = one-shifted (c .before .loop .bits - 1) (omega (arith, c .before .loop .inv .bits))
-
-trial : (c : tie.In-loop Inv-loop μ-loop) → c .before .loop .r + 2 ^ (c .before .loop .bits - 1) ≤ 65535
-trial c = trial-room (c .before .loop .bits - 1) (c .before .loop .inv) (omega arith)
-
-shl-trial : tie.Need-shl-trial Inv-loop μ-loop
-shl-trial c = omega (arith, c .before .loop .inv .bits)
+loop-holds c = within-first (c .before .args .w .0) (search needs)
 
 add-trial : tie.Need-add-trial Inv-loop μ-loop
-add-trial c = omega (arith, bit c, trial c)
+add-trial c = omega (arith, trial-fits (c .before .loop .inv) (search needs))
 
-mul-if1 : tie.Need-mul-if1 Inv-loop μ-loop
-mul-if1 c = rw (bit c) (omega (arith, mul-le-mul (trial c) (trial c)))
+add-r : tie.Need-add-r Inv-loop μ-loop
+add-r c = search needs
 
 loop-less : tie.Need-loop-less Inv-loop μ-loop
 loop-less c = search needs
 
 loop-again : tie.Need-loop-again Inv-loop μ-loop
 loop-again c =
-    let o = c .before .before .loop in
-    rw (bit (c .before)) (within-taken (o .bits - 1) (o .inv) (omega arith) (rw (bit (c .before)) at (c .if1 .taken)))
-
-loop-less-2 : tie.Need-loop-less-2 Inv-loop μ-loop
-loop-less-2 c = search needs
-
-loop-again-2 : tie.Need-loop-again-2 Inv-loop μ-loop
-loop-again-2 c =
-    let o = c .before .before .loop in
-    within-left (o .bits - 1) (o .inv) (omega arith) (rw (bit (c .before)) at (c .if1 .left))
+    let i = c .before .before .loop .inv in
+    ⊎-elim (λ t. rw (t .1, t .2) (within-taken i (omega arith) (t .0 .taken)))
+    (λ t. rw (t .1, t .2) (within-left i (omega arith) (t .0 .left)))
+    (c .if1 .came)
 
 returns : tie.Need-returns Inv-loop μ-loop
-returns c =
-    let o = c .before .loop in
-    let z : o .bits ≡ 0 = omega arith in
-    within-last (rw z at (o .inv))
+returns c = within-last (c .before .loop .inv) (omega arith)
 
 pub root-spec : {M : Type 1} → statement M
 root-spec =
@@ -67,14 +55,14 @@ root-spec =
     (tie.spec
     Inv-loop
     μ-loop
-    sub-bits
+    sub-digits
+    mul-bit
+    cast-bit
+    shl-bit
+    cast-bit-2
     loop-holds
-    sub-bits-2
-    shl-trial
     add-trial
-    mul-if1
+    add-r
     loop-less
     loop-again
-    loop-less-2
-    loop-again-2
     returns)
