@@ -21,27 +21,28 @@ pub train-numbers : (t : Train) → trainSizes (asTrain t) ≡ trainNumbers (t .
 unfolding trainSizes
 train-numbers t = simp length-row
 
-pub limit-point-numbers : (l : Line) → 1 ≤ l .«limit_count» →
+-- here and below, p is the number of points as the code holds it
+pub limit-point-numbers : (l : Line) {p : ℕ} → p ≡ l .points → 1 ≤ l .«limit_count» →
     limitPointsRule (asLine l) ≡
-    (eqb (entry (l .«limit_points») 0) 0 and risesBy 1 (l .«limit_count») (entry (l .«limit_points»)) and allWithin 0 (l .points - 2) (l .«limit_count»)
+    (eqb (entry (l .«limit_points») 0) 0 and risesBy 1 (l .«limit_count») (entry (l .«limit_points»)) and allWithin 0 (p - 2) (l .«limit_count»)
     (entry (l .«limit_points»)))
 unfolding limitPointsRule
-limit-point-numbers l h =
+limit-point-numbers l e h =
     let first : entry (row (entry (l .«limit_points»)) (l .«limit_count»)) 0 ≡ entry (l .«limit_points») 0 =
     entry-row (entry (l .«limit_points»)) (l .«limit_count») 0 h in
-    rw (rises-row, within-row, first)
+    rw (e, rises-row, within-row, first)
 
-pub block-numbers : (l : Line) → 1 ≤ l .«block_count» →
+pub block-numbers : (l : Line) {p : ℕ} → p ≡ l .points → 1 ≤ l .«block_count» →
     blocksRule (asLine l) ≡
     (eqb (entry (l .«block_starts») 0) 0
     and belowBy 1 (l .«block_count») (entry (l .«block_starts»)) (λ i. entry (l .«block_ends») (i + 0))
     and belowBy 0 (l .«block_count» - 1) (entry (l .«block_ends»)) (λ i. entry (l .«block_starts») (i + 1))
-    and allWithin 0 (l .points - 1) (l .«block_count») (entry (l .«block_ends»)))
+    and allWithin 0 (p - 1) (l .«block_count») (entry (l .«block_ends»)))
 unfolding blocksRule
-block-numbers l h =
+block-numbers l e h =
     let first : entry (row (entry (l .«block_starts»)) (l .«block_count»)) 0 ≡ entry (l .«block_starts») 0 =
     entry-row (entry (l .«block_starts»)) (l .«block_count») 0 h in
-    rw (below-row, below-next-row, within-row, first)
+    rw (e, below-row, below-next-row, within-row, first)
 
 pub last-block-numbers : (l : Line) (t : Train) → 1 ≤ l .«block_count» →
     lastBlockRule (asLine l) (asTrain t) ≡ leb (entry (l .«block_ends») (l .«block_count» - 1) + trainCells (asLine l) (asTrain t)) (l .points - 1)
@@ -68,9 +69,9 @@ pub band-numbers : (t : Train) →
 unfolding bandsRule
 band-numbers t = simp (rises-row, within-row)
 
-pub stop-numbers : (l : Line) (t : Train) →
+pub stop-numbers : (l : Line) (t : Train) {p : ℕ} → p ≡ l .points →
     stopsRule (asLine l) (asTrain t) ≡
-    (risesBy 2 (t .«stop_count») (entry (t .stops)) and allWithin 0 (l .points - 1) (t .«stop_count») (entry (t .stops)) and allWithin 0 3600
+    (risesBy 2 (t .«stop_count») (entry (t .stops)) and allWithin 0 (p - 1) (t .«stop_count») (entry (t .stops)) and allWithin 0 3600
     (t .«stop_count») (entry (t .dwells)))
 unfolding stopsRule
-stop-numbers l t = simp (rises-row, within-row)
+stop-numbers l t e = rw e (simp (rises-row, within-row))

@@ -45,7 +45,7 @@ fn limit_points_kept(line: Line) -> bool
     let last = size(line.points) - 2;
     both(
         is_zero(points[0]),
-        both(rises_by(1, n, points), all_within(points, n, 0, last)),
+        both(rises_by(1, n, &points), all_within(&points, n, 0, last)),
     )
 }
 
@@ -56,7 +56,7 @@ fn limits_kept(line: Line) -> bool
 {
     let limits = line.limits;
     let n = line.limit_count;
-    all_within(limits, n, 1, 300)
+    all_within(&limits, n, 1, 300)
 }
 
 // Rule 6.
@@ -69,12 +69,12 @@ fn blocks_kept(line: Line) -> bool
     let n = line.block_count;
     let last = size(line.points) - 1;
     let rest = both(
-        below_by(0, n - 1, ends, starts, 1),
-        all_within(ends, n, 0, last),
+        below_by(0, n - 1, &ends, &starts, 1),
+        all_within(&ends, n, 0, last),
     );
     both(
         is_zero(starts[0]),
-        both(below_by(1, n, starts, ends, 0), rest),
+        both(below_by(1, n, &starts, &ends, 0), rest),
     )
 }
 

@@ -33,9 +33,9 @@ pub(crate) fn is_within(x: usize, low: usize, high: usize) -> bool
 }
 
 // Whether each of the first n numbers lies from `low` to `high`.
-pub(crate) fn all_within(numbers: [u16; 64], n: usize, low: usize, high: usize) -> bool
+pub(crate) fn all_within(numbers: &[u16; 64], n: usize, low: usize, high: usize) -> bool
     requires { ⌜ n ≤ 64 ⌝ }
-    ensures { λ r. ⌜ r ≡ allWithin low high n (entry numbers) ⌝ }
+    ensures { λ r. ⌜ r ≡ allWithin low high n (entry (now (numbers .entry))) ⌝ }
 {
     let mut i = 0;
     while i < n {
@@ -49,15 +49,15 @@ pub(crate) fn all_within(numbers: [u16; 64], n: usize, low: usize, high: usize) 
 }
 
 // Whether each of the first n numbers, with `gap` added, is at most the number `ahead` places on in the others.
-pub(crate) fn below_by(
+pub(crate) fn below_by<'a>(
     gap: usize,
     n: usize,
-    numbers: [u16; 64],
-    others: [u16; 64],
+    numbers: &'a [u16; 64],
+    others: &'a [u16; 64],
     ahead: usize,
 ) -> bool
     requires { ⌜ (n + ahead ≤ 64) × (gap ≤ 2) ⌝ }
-    ensures { λ r. ⌜ r ≡ belowBy gap n (entry numbers) (λ i. entry others (i + ahead)) ⌝ }
+    ensures { λ r. ⌜ r ≡ belowBy gap n (entry (now (numbers .entry))) (λ i. entry (now (others .entry)) (i + ahead)) ⌝ }
 {
     let mut i = 0;
     while i < n {
@@ -70,9 +70,9 @@ pub(crate) fn below_by(
 }
 
 // Whether of the first n numbers each is at least `gap` more than the one before it.
-pub(crate) fn rises_by(gap: usize, n: usize, numbers: [u16; 64]) -> bool
+pub(crate) fn rises_by(gap: usize, n: usize, numbers: &[u16; 64]) -> bool
     requires { ⌜ (n ≤ 64) × (gap ≤ 2) ⌝ }
-    ensures { λ r. ⌜ r ≡ risesBy gap n (entry numbers) ⌝ }
+    ensures { λ r. ⌜ r ≡ risesBy gap n (entry (now (numbers .entry))) ⌝ }
 {
     if n == 0 {
         return true;

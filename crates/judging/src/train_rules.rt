@@ -46,8 +46,8 @@ fn bands_kept(train: Train) -> bool
     let tops = train.tops;
     let rates = train.rates;
     let n = train.band_count;
-    let within = both(all_within(tops, n, 1, 300), all_within(rates, n, 1, 200));
-    both(rises_by(1, n, tops), within)
+    let within = both(all_within(&tops, n, 1, 300), all_within(&rates, n, 1, 200));
+    both(rises_by(1, n, &tops), within)
 }
 
 // Rule 8.
@@ -60,10 +60,10 @@ fn stops_kept(line: Line, train: Train) -> bool
     let n = train.stop_count;
     let last = size(line.points) - 1;
     let within = both(
-        all_within(stops, n, 0, last),
-        all_within(dwells, n, 0, 3600),
+        all_within(&stops, n, 0, last),
+        all_within(&dwells, n, 0, 3600),
     );
-    both(rises_by(2, n, stops), within)
+    both(rises_by(2, n, &stops), within)
 }
 
 // Rule 9.

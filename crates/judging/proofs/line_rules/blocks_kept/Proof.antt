@@ -38,14 +38,19 @@ both-requires-2 c κs = search needs
 both-requires-3 : tie.Need-both-requires-3
 both-requires-3 c κs = search needs
 
+-- the places where the code knows `rest` and `last`
+abbrev rest : tie.After-both3 → tie.After-both
+rest c = c .before .before .before .before .before .before
+
+abbrev last : tie.After-both3 → tie.After-size
+last c = rest c .before .before .before .before .before .before
+
 returns : tie.Need-returns
 returns c =
-    rw (block-numbers (c .before .before .before .before .before .before .before .before .before .before .args .line) (omega arith))
-    (and-of (c .both3 .ensures) (c .before .before .before .is-zero .ensures)
+    rw (block-numbers (last c .before .before .before .args .line) (last c .size .ensures .0) (omega arith))
+    (and-of (c .both3 .ensures) (c .before .before .before .before .before .is-zero .ensures)
     (and-of (c .before .both2 .ensures) (c .before .before .below-by2 .ensures)
-    (and-of (c .before .before .before .before .both .ensures) (c .before .before .before .before .before .before .below-by .ensures)
-    (rw (c .before .before .before .before .before .before .before .size .ensures .0) at
-    (c .before .before .before .before .before .all-within .ensures)))))
+    (and-of (rest c .both .ensures) (rest c .before .before .before .below-by .ensures) (rest c .before .all-within .ensures))))
 
 pub blocks-kept-spec : {M : Type 1} → statement M
 blocks-kept-spec =

@@ -31,10 +31,13 @@ both-requires-2 c κs = search needs
 
 returns : tie.Need-returns
 returns c =
-    rw (limit-point-numbers (c .before .before .before .before .before .before .before .args .line) (omega arith))
-    (and-of (c .both2 .ensures) (c .before .before .before .before .is-zero .ensures)
-    (and-of (c .before .both .ensures) (c .before .before .before .rises-by .ensures)
-    (rw (c .before .before .before .before .before .size .ensures .0) at (c .before .before .all-within .ensures))))
+    let inside = c .before .before in
+    let rising = inside .before .before in
+    let zero = rising .before .before in
+    let last = zero .before in
+    rw (limit-point-numbers (last .before .before .args .line) (last .size .ensures .0) (omega arith))
+    (and-of (c .both2 .ensures) (zero .is-zero .ensures)
+    (and-of (c .before .both .ensures) (rising .rises-by .ensures) (inside .all-within .ensures)))
 
 pub limit-points-kept-spec : {M : Type 1} → statement M
 limit-points-kept-spec =

@@ -9,10 +9,10 @@ use Rattle.judging.proofs.numbers.all_within.Statement.{statement}
 use Rattle.judging.proofs.numbers.all_within.Tie as tie
 
 abbrev Inv-loop : tie.InvT-loop
-Inv-loop n low high numbers i₀ i = (i ≤ n) × (allWithin low high i (entry numbers) ≡ true)
+Inv-loop numbers n low high i₀ i = (i ≤ n) × (allWithin low high i (entry numbers) ≡ true)
 
 abbrev μ-loop : tie.MeasureT-loop
-μ-loop n low high numbers i₀ i = n - i
+μ-loop numbers n low high i₀ i = n - i
 
 loop-holds : tie.Need-loop-holds Inv-loop μ-loop
 loop-holds c = (search needs, every-none _)
@@ -20,8 +20,8 @@ loop-holds c = (search needs, every-none _)
 mul-size : tie.Need-mul-size Inv-loop μ-loop
 mul-size c = search needs
 
-array-read-size : tie.Need-array-read-size Inv-loop μ-loop
-array-read-size c = search needs
+element-copy-out-size : tie.Need-element-copy-out-size Inv-loop μ-loop
+element-copy-out-size c = search needs
 
 size-requires : tie.Need-size-requires Inv-loop μ-loop
 size-requires c κs = search needs
@@ -38,12 +38,12 @@ loop-less c = search needs
 loop-again : tie.Need-loop-again Inv-loop μ-loop
 loop-again c = (
   search needs,
-  every-more _ _ (c .before .before .before .before .loop .inv .1)
+  every-more _ _ (c .before .before .before .before .before .loop .inv .1)
       (rw (c .before .before .size .ensures .0) at (sym (c .before .is-within .ensures) ∙ c .if1 .taken)),
 )
 
 returns : tie.Need-returns Inv-loop μ-loop
-returns c = sym (every-broken _ _ (c .before .before .before .before .loop .i) (omega arith)
+returns c = sym (every-broken _ _ (c .before .before .before .before .before .loop .i) (omega arith)
     (rw (c .before .before .size .ensures .0) at (sym (c .before .is-within .ensures) ∙ c .if1 .left)))
 
 returns-2 : tie.Need-returns-2 Inv-loop μ-loop
@@ -57,7 +57,7 @@ all-within-spec =
     μ-loop
     loop-holds
     mul-size
-    array-read-size
+    element-copy-out-size
     size-requires
     is-within-requires
     add-i

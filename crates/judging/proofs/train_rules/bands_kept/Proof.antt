@@ -1,5 +1,4 @@
 use Rattle.judging.proofs.Rules.{band-numbers}
-use mathlib.Core.Path.{sym, _∙_}
 use Rattle.rules.proofs.Loops.{and-of}
 use borrow.Author.Needs.{needs}
 use Rattle.judging.proofs.train_rules.bands_kept.Statement.{statement}
@@ -22,9 +21,12 @@ both-requires-2 c κs = search needs
 
 returns : tie.Need-returns
 returns c =
-    and-of (c .both2 .ensures) (c .before .rises-by .ensures)
-    (and-of (c .before .before .both .ensures) (c .before .before .before .before .all-within .ensures) (c .before .before .before .all-within2 .ensures))
-    ∙ sym (band-numbers (c .before .before .before .before .before .before .before .args .train))
+    let within = c .before .before .before in
+    let rates = within .before in
+    let tops = rates .before .before in
+    rw band-numbers
+    (and-of (c .both2 .ensures) (c .before .rises-by .ensures)
+    (and-of (within .both .ensures) (tops .all-within .ensures) (rates .all-within2 .ensures)))
 
 pub bands-kept-spec : {M : Type 1} → statement M
 bands-kept-spec =

@@ -1,5 +1,4 @@
 use Rattle.judging.proofs.Rules.{stop-numbers}
-use mathlib.Core.Path.{sym, _∙_}
 use Rattle.rules.proofs.Loops.{and-of}
 use borrow.Author.Needs.{needs}
 use Rattle.judging.proofs.train_rules.stops_kept.Statement.{statement}
@@ -28,11 +27,14 @@ both-requires-2 c κs = search needs
 
 returns : tie.Need-returns
 returns c =
-    and-of (c .both2 .ensures) (c .before .rises-by .ensures)
-    (and-of (c .before .before .both .ensures) (rw (c .before .before .before .before .before .size .ensures .0) at
-    (c .before .before .before .before .all-within .ensures)) (c .before .before .before .all-within2 .ensures))
-    ∙ sym (stop-numbers (c .before .before .before .before .before .before .before .before .args .line)
-    (c .before .before .before .before .before .before .before .before .args .train))
+    let within = c .before .before .before in
+    let dwells = within .before in
+    let stops = dwells .before .before in
+    let last = stops .before .before in
+    let a = last .before .before .before .args in
+    rw (stop-numbers (a .line) (a .train) (last .size .ensures .0))
+    (and-of (c .both2 .ensures) (c .before .rises-by .ensures)
+    (and-of (within .both .ensures) (stops .all-within .ensures) (dwells .all-within2 .ensures)))
 
 pub stops-kept-spec : {M : Type 1} → statement M
 stops-kept-spec =
