@@ -17,17 +17,17 @@ use Rattle.rules.proofs.Fill.{Filled, fill-none, fill-up, fill-padded}
 use Rattle.rules.proofs.Hold.{approach-is, approach-slow, approach-agree, clears-within}
 use Rattle.rules.proofs.Run.{run-is}
 use Rattle.rules.proofs.Time.{departure-is, departs-before, arrival-most, entry-times}
+use Rattle.stops.specs.declared.Stop.{Stop}
 use Rattle.stops.specs.Stops.{Behind, NextStop}
-use Rattle.stops.proofs.Passing.{behind-first}
 use Rattle.run.proofs.Traction.{loss-most}
 
 -- the record after the first j blocks
-pub record Holds (l : Line) (t : Train) (h : Hold) (point next j : ℕ) : Type 0 where
+pub record Holds (l : Line) (t : Train) (h : Hold) (point : ℕ) (stop : Stop) (j : ℕ) : Type 0 where
   pub count : h .blocks ≡ length (l .blockStarts)
   pub blocks : j ≤ length (l .blockStarts)
   pub before : (b : ℕ) → ((k : ℕ) → k < j → entry (l .blockStarts) k ≤ b) → point ≤ b
   pub slow : (b : ℕ) → ((k : ℕ) → k < j → entry (l .blockStarts) k ≤ b) → 0 < point → entry (runRow l t) point ≤ brakingLoss l t * (b - point)
-  pub behind : Behind (t .stops) next point
+  pub behind : Behind (t .stops) stop point
   pub begins : Filled (λ k. holdBegin l t (runRow l t) (entry (l .blockStarts) k)) 0 j (emptyHold .begins) (h .begins)
   pub ends : Filled (λ k. holdEnd l t (runRow l t) (entry (l .blockEnds) k)) 0 j (emptyHold .ends) (h .ends)
 
@@ -43,22 +43,23 @@ zeros : (k : ℕ) → k < 32 → entry (emptyHold .begins) k ≡ 0
 zeros k h = getD-replicate {A = ℕ} 32 k 0 0 h
 
 module _ (l : Line) (t : Train) (a : Admitted l t) where
-  pub holds-first : {h : Hold} {n : ℕ} → h ≡ record { blocks = n; begins = emptyHold .begins; ends = emptyHold .ends } → n ≡ length (l .blockStarts) →
-      Holds l t h 0 0 0
-  holds-first {h} {n} e m =
+  pub holds-first :
+      {h : Hold} {n : ℕ} {stop : Stop} → h ≡ record { blocks = n; begins = emptyHold .begins; ends = emptyHold .ends } → n ≡ length (l .blockStarts) →
+      Behind (t .stops) stop 0 → Holds l t h 0 stop 0
+  holds-first {h} {n} e m b =
       record {
         count = ap (λ (h : Hold). h .blocks) e ∙ m;
         blocks = omega arith;
         before = λ b g. omega arith;
         slow = λ b g z. absurd (omega arith);
-        behind = behind-first (t .stops);
+        behind = b;
         begins = rw (ap (λ (h : Hold). h .begins) e) (fill-none _ 0 _);
         ends = rw (ap (λ (h : Hold). h .ends) e) (fill-none _ 0 _);
       }
 
-  pub holds-all : {h : Hold} {point next j : ℕ} → Holds l t h point next j → length (l .blockStarts) ≤ j → h ≡ holdOf l t
+  pub holds-all : {h : Hold} {point : ℕ} {stop : Stop} {j : ℕ} → Holds l t h point stop j → length (l .blockStarts) ≤ j → h ≡ holdOf l t
   unfolding holdWith
-  holds-all {h} {point} {next} {j} r m =
+  holds-all {h} {point} {stop} {j} r m =
       let e : j ≡ length (l .blockStarts) = omega (arith, r .blocks) in
       let most : j ≡ min (length (l .blockStarts)) 32 = omega (arith, a .rule3Line .blocks-most) in
       same-hold (r .count) (fill-padded _ 32 (r .begins) most places zeros) (fill-padded _ 32 (r .ends) most places zeros)
@@ -69,7 +70,7 @@ module _ (l : Line) (t : Train) (a : Admitted l t) where
       rises-far (entry (l .blockStarts)) (length (l .blockStarts)) (λ k h. omega (arith, a .rule6 .below k (omega arith), a .rule6 .after k h)) k j
       (omega arith) h
 
-  module _ {h : Hold} {point next j : ℕ} (r : Holds l t h point next j) (m : j < length (l .blockStarts)) where
+  module _ {h : Hold} {point : ℕ} {stop : Stop} {j : ℕ} (r : Holds l t h point stop j) (m : j < length (l .blockStarts)) where
     -- the block starts and ends on the line
     pub block-on : (entry (l .blockStarts) j < entry (l .blockEnds) j) × (entry (l .blockEnds) j + trainCells l t < l .points)
     block-on = (a .rule6 .below j m, clears-within l t a j m)
@@ -146,9 +147,9 @@ module _ (l : Line) (t : Train) (a : Admitted l t) where
 
     -- the record with this block added
     pub holds-on :
-        {p next′ begin end : ℕ} → p ≡ approachPoint (runRow l t) (brakingLoss l t) (entry (l .blockStarts) j) → NextStop (t .stops) next′ p →
+        {p : ℕ} {stop′ : Stop} {begin end : ℕ} → p ≡ approachPoint (runRow l t) (brakingLoss l t) (entry (l .blockStarts) j) → NextStop (t .stops) stop′ p →
         begin ≡ holdBegin l t (runRow l t) (entry (l .blockStarts) j) → end ≡ holdEnd l t (runRow l t) (entry (l .blockEnds) j) →
-        Holds l t (record { blocks = h .blocks; begins = set (h .begins) j begin; ends = set (h .ends) j end }) p next′ (j + 1)
+        Holds l t (record { blocks = h .blocks; begins = set (h .begins) j begin; ends = set (h .ends) j end }) p stop′ (j + 1)
     holds-on {p} q n b e =
         record {
           count = r .count;

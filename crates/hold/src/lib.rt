@@ -4,7 +4,8 @@ mod approach;
 use approach::approach_point;
 use holds::HoldRecord;
 use stops::dwell_at;
-use stops::stop_from;
+use stops::first_stop;
+use stops::stop_ahead;
 use values::Line;
 use values::Train;
 use widths::size;
@@ -54,12 +55,12 @@ fn hold_record(line: Line, train: Train, speeds: &[u32], times: &[u64]) -> HoldR
     let mut hold = HoldRecord::NONE;
     hold.blocks = line.block_count as u64;
     let mut point = 0;
-    let mut next = 0;
+    let mut stop = first_stop(&stop_points, train.stop_count);
     let mut j = 0;
     while j < line.block_count {
         point = approach_point(speeds, loss, point, size(starts[j]));
-        next = stop_from(&stop_points, train.stop_count, next, point);
-        let dwell = dwell_at(&stop_points, &dwells, train.stop_count, next, point);
+        stop = stop_ahead(&stop_points, train.stop_count, stop, point);
+        let dwell = dwell_at(&dwells, stop, point);
         hold.begins[j] = times[point] + dwell;
         hold.ends[j] = times[size(ends[j]) + cells] + clearing;
         j += 1;

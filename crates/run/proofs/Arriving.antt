@@ -16,25 +16,26 @@ use Rattle.rules.proofs.Fill.{Filled, fill-none, fill-up}
 use Rattle.rules.proofs.Root.{root-least}
 use Rattle.rules.proofs.Run.{run-moves}
 use Rattle.rules.proofs.Time.{arrival-first, arrival-next, arrival-most, departure-is}
+use Rattle.stops.specs.declared.Stop.{Stop}
 use Rattle.stops.specs.Stops.{Behind}
 use Rattle.run.proofs.Rows.{fill-written}
-use Rattle.stops.proofs.Passing.{behind-first}
 
 -- at the arrival at point i: the next stop, the time, the root of the squared speed, and the earlier arrivals in the buffer
-pub record Arrived (l : Line) (t : Train) (times₀ : List ℕ) (i next time here : ℕ) (times : List ℕ) : Type 0 where
+pub record Arrived (l : Line) (t : Train) (times₀ : List ℕ) (i : ℕ) (stop : Stop) (time here : ℕ) (times : List ℕ) : Type 0 where
   pub point : i < l .points
-  pub stop : Behind (t .stops) next i
+  pub behind : Behind (t .stops) stop i
   pub clock : time ≡ arrival l t (runRow l t) i
   pub speed : here ≡ root (entry (runRow l t) i)
   pub slow : here ≤ 65535
   pub filled : Filled (arrival l t (runRow l t)) 0 i times₀ times
 
 module _ (l : Line) (t : Train) (a : Admitted l t) where
-  pub arrived-first : {times : List ℕ} {w here : ℕ} → here ≡ root w → w ≡ entry (runRow l t) 0 → here ≤ 65535 → Arrived l t times 0 0 0 here times
-  arrived-first {times} e f s =
+  pub arrived-first : {times : List ℕ} {stop : Stop} {w here : ℕ} → Behind (t .stops) stop 0 → here ≡ root w → w ≡ entry (runRow l t) 0 → here ≤ 65535 →
+      Arrived l t times 0 stop 0 here times
+  arrived-first {times} b e f s =
       record {
         point = omega (arith, a .rule3Line .points-least);
-        stop = behind-first (t .stops);
+        behind = b;
         clock = sym (arrival-first l t (runRow l t));
         speed = e ∙ ap root f;
         slow = s;
@@ -42,14 +43,14 @@ module _ (l : Line) (t : Train) (a : Admitted l t) where
       }
 
   -- the buffer once the last arrival is stored
-  pub arrived-last : {times₀ times : List ℕ} {i next time here : ℕ} → Arrived l t times₀ i next time here times → l .points ≡ suc i →
+  pub arrived-last : {times₀ times : List ℕ} {i : ℕ} {stop : Stop} {time here : ℕ} → Arrived l t times₀ i stop time here times → l .points ≡ suc i →
       l .points ≤ length times₀ → set times i time ≡ written times₀ 0 (runTimes l t)
   unfolding arrivals
   arrived-last r e h = fill-written (fill-up (r .filled) (omega arith) e (omega arith) (r .clock)) h
 
   -- from point i to the next, whose squared speed is w
   module _
-      {times₀ times : List ℕ} {i next time here w there : ℕ} (r : Arrived l t times₀ i next time here times) (h : i + 1 < l .points)
+      {times₀ times : List ℕ} {i : ℕ} {stop : Stop} {time here w there : ℕ} (r : Arrived l t times₀ i stop time here times) (h : i + 1 < l .points)
       (f : there ≡ root w) (g : w ≡ entry (runRow l t) (i + 1)) where
     there-is : there ≡ root (entry (runRow l t) (suc i))
     there-is = f ∙ ap root (rw (add-one i) at g)
@@ -69,12 +70,12 @@ module _ (l : Line) (t : Train) (a : Admitted l t) where
       pub clock-most : time + dwelt + cell < 2 ^ 43
       clock-most = omega (arith, clock-next, arrival-most l t a (suc i) (omega arith))
 
-      pub arrived-next : {after : ℕ} → there ≤ 65535 → Behind (t .stops) after (i + 1) → l .points ≤ length times₀ →
+      pub arrived-next : {after : Stop} → there ≤ 65535 → Behind (t .stops) after (i + 1) → l .points ≤ length times₀ →
           Arrived l t times₀ (i + 1) after (time + dwelt + cell) there (set times i time)
       arrived-next s n b =
           record {
             point = h;
-            stop = n;
+            behind = n;
             clock = rw (add-one i) clock-next;
             speed = f ∙ ap root g;
             slow = s;

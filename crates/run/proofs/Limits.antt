@@ -2,7 +2,7 @@
 use Prim.Native.Nat.{ℕ, zero, suc, _+_, _-_, _*_, _≤_, _<_, min}
 use mathlib.Core.Bool.{Bool, true, false, cond}
 use mathlib.Core.List.{List}
-use mathlib.Core.Path.{_≡_, refl}
+use mathlib.Core.Path.{_≡_, refl, ap, _∙_}
 use native.Mathlib.Decide.{decLe}
 use native.Mathlib.Nat.{le-refl, le-antisymm, zero-mul}
 use native.Mathlib.Omega.{arith}
@@ -11,7 +11,7 @@ use lib.ListN.{length}
 use borrow.Author.Tests.{ltb-true, ltb-false, leb-true, leb-false}
 use Rattle.rules.specs.Count.{_and_, entry, lowestFrom}
 use Rattle.rules.specs.Line.{Line, Train}
-use Rattle.rules.specs.Run.{trainCells, lastTop, cellLimit, capSpeed}
+use Rattle.rules.specs.Run.{squared, trainCells, lastTop, cellLimit, capSpeed}
 use Rattle.rules.specs.Admitted.{Admitted}
 use Rattle.rules.specs.Meaning.{InForce, Covers, IsCapSpeed}
 use Rattle.rules.proofs.Count.{rises-far, lowest-le, lowest-each, lowest-greatest}
@@ -53,11 +53,11 @@ stays-none points count n head tail = record { by-head = λ i h. absurd (omega a
 
 -- ---- limits in force
 
--- the limits from `tail` to `head` hold in the cells that the train covers with its head at point i
-pub record IsCovered (l : Line) (n top i head tail lowest : ℕ) : Type 0 where
+-- the limits from `tail` to `head` hold in the cells that the train covers with its head at point i, and give this cap
+pub record IsCovered (l : Line) (n top i head tail cap : ℕ) : Type 0 where
   pub head-in : InForce l head (min i (l .points - 2))
   pub tail-in : InForce l tail (i - n)
-  pub lowest-is : lowest ≡ lowestFrom (entry (l .limits)) top tail (head + 1 - tail)
+  pub cap-is : cap ≡ squared (lowestFrom (entry (l .limits)) top tail (head + 1 - tail))
 
 module _ (l : Line) (t : Train) (a : Admitted l t) where
   points-rise : (j k : ℕ) → j < k → k < length (l .limitPoints) → entry (l .limitPoints) j < entry (l .limitPoints) k
@@ -101,8 +101,8 @@ module _ (l : Line) (t : Train) (a : Admitted l t) where
         unended = λ u. let s : suc at ≡ at + 1 = omega arith in rw s (omega (arith, n (omega arith), same (at + 1) (omega arith)));
       })
 
-  pub covered-first : (n top lowest : ℕ) → lowest ≡ lowestFrom (entry (l .limits)) top 0 1 → IsCovered l n top 0 0 0 lowest
-  covered-first n top lowest q = record { head-in = zero-in (omega arith); tail-in = zero-in (omega arith); lowest-is = q }
+  pub covered-first : (n top : ℕ) {cap : ℕ} → cap ≡ squared (lowestFrom (entry (l .limits)) top 0 1) → IsCovered l n top 0 0 0 cap
+  covered-first n top q = record { head-in = zero-in (omega arith); tail-in = zero-in (omega arith); cap-is = q }
     where
       zero-in : {c : ℕ} → c ≡ 0 → InForce l 0 c
       zero-in e =
@@ -113,16 +113,16 @@ module _ (l : Line) (t : Train) (a : Admitted l t) where
           }
 
   pub covered-next :
-      (points : List ℕ) (count n top i : ℕ) {head tail lowest head′ tail′ lowest′ : ℕ} → count ≡ length (l .limitPoints) →
-      ((k : ℕ) → k < count → entry points k ≡ entry (l .limitPoints) k) → IsCovered l n top i head tail lowest →
+      (points : List ℕ) (count n top i : ℕ) {head tail cap head′ tail′ cap′ : ℕ} → count ≡ length (l .limitPoints) →
+      ((k : ℕ) → k < count → entry points k ≡ entry (l .limitPoints) k) → IsCovered l n top i head tail cap →
       head′ ≡ nextBegun points count head (i + 1) → tail′ ≡ nextBegun points count tail (i + 1 - n) →
-      lowest′ ≡ lowestFrom (entry (l .limits)) top tail′ (head′ + 1 - tail′) → IsCovered l n top (i + 1) head′ tail′ lowest′
+      cap′ ≡ squared (lowestFrom (entry (l .limits)) top tail′ (head′ + 1 - tail′)) → IsCovered l n top (i + 1) head′ tail′ cap′
   covered-next points count n top i e same u p q r =
       record {
         head-in = rw p (step points count _ (i + 1) (min (i + 1) (l .points - 2)) (min i (l .points - 2)) e same (u .head-in) (omega arith) (omega arith)
             (omega arith) (λ k g h. omega (arith, a .rule4 .limit-point-most k (omega arith))));
         tail-in = rw q (step points count _ (i + 1 - n) (i + 1 - n) (i - n) e same (u .tail-in) (omega arith) (omega arith) (omega arith) (λ k g h. h));
-        lowest-is = r;
+        cap-is = r;
       }
 
   -- ---- the cap speed
@@ -140,7 +140,7 @@ module _ (l : Line) (t : Train) (a : Admitted l t) where
   points-far : (j k : ℕ) → j ≤ k → k < length (l .limitPoints) → entry (l .limitPoints) j ≤ entry (l .limitPoints) k
   points-far = rises-far (entry (l .limitPoints)) (length (l .limitPoints)) (λ i q. omega (arith, a .rule4 .rise i q))
 
-  module _ {i head tail lowest : ℕ} (u : IsCovered l (trainCells l t) (lastTop t) i head tail lowest) (h : i < l .points) where
+  module _ {i head tail cap : ℕ} (u : IsCovered l (trainCells l t) (lastTop t) i head tail cap) (h : i < l .points) where
     -- each limit from the tail's to the head's holds in a cell that the train covers
     holds-somewhere : (k : ℕ) → tail ≤ k → k ≤ head → (c : ℕ) × Covers l t i c × InForce l k c
     holds-somewhere k p q = go (decLe k tail)
@@ -165,13 +165,13 @@ module _ (l : Line) (t : Train) (a : Admitted l t) where
         let (k, f) = limit-in-force l t a c in
         (k, in-order (u .tail-in) f (omega (arith, v .from-tail)), in-order f (u .head-in) (omega (arith, v .to-head, v .exists)), limit-is l t a k c f)
 
-    pub covered-cap : lowest ≡ capSpeed l t i
+    pub covered-cap : cap ≡ squared (capSpeed l t i)
     covered-cap =
         let is : IsCapSpeed l t i (capSpeed l t i) = cap-speed-is l t i in
         let f : ℕ → ℕ = entry (l .limits) in
         let n : ℕ = head + 1 - tail in
-        rw (u .lowest-is)
-        (le-antisymm
+        u .cap-is
+        ∙ ap squared (le-antisymm
         (is .greatest (lowestFrom f (lastTop t) tail n) (lowest-le f (lastTop t) tail n)
         (λ c v. let (k, p, q, e) = covered-by c v in rw e (lowest-each f (lastTop t) tail n k p (omega arith))))
         (lowest-greatest f (lastTop t) (capSpeed l t i) tail n (is .top)

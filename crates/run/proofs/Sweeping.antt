@@ -46,14 +46,10 @@ module _ (l : Line) (t : Train) (a : Admitted l t) where
 
   -- the cap by the walk along the limits and the stops
   pub cap-at :
-      (i : ℕ) {head tail lowest : ℕ} {b : Bool} {v : ℕ} → i < l .points → IsCovered l (trainCells l t) (lastTop t) i head tail lowest →
-      b ≡ listed i (t .stops) → v ≡ cond b 0 (squared lowest) → v ≡ cap l t i
+      (i : ℕ) {head tail covered : ℕ} {b : Bool} {v : ℕ} → i < l .points → IsCovered l (trainCells l t) (lastTop t) i head tail covered →
+      b ≡ listed i (t .stops) → v ≡ cond b 0 covered → v ≡ cap l t i
   unfolding cap capOf
   cap-at i h u e q = q ∙ rw (e, covered-cap l t a u h)
-
-  -- a cap speed is at most 300
-  pub covered-most : {i head tail lowest : ℕ} → IsCovered l (trainCells l t) (lastTop t) i head tail lowest → lowest ≤ 300
-  covered-most u = rw (u .lowest-is) (le-trans (lowest-le _ _ _ _) (last-top-most l t a))
 
 -- ---- the walk over a decoded line and train
 
@@ -83,20 +79,20 @@ module _ (line : decodedLine.Line) (train : decodedTrain.Train) (a : Admitted (a
   by-array top tail n h = lowest-agree _ _ top tail n (λ k p q. entry-row (entry (line .limits)) (line .«limit_count») k (omega arith))
 
   pub covered-ready :
-      {n top i head tail lowest : ℕ} → IsCovered l n top i head tail lowest →
-      (head < line .«limit_count») × (tail < line .«limit_count») × (lowest ≡ lowestFrom (entry (line .limits)) top tail (head + 1 - tail))
+      {n top i head tail cap : ℕ} → IsCovered l n top i head tail cap →
+      (head < line .«limit_count») × (tail < line .«limit_count») × (cap ≡ squared (lowestFrom (entry (line .limits)) top tail (head + 1 - tail)))
   covered-ready {n} {top} {i} {head} {tail} u =
       let c = counts in
       let h : head < line .«limit_count» = omega (arith, u .head-in .there) in
       let m : tail < line .«limit_count» = omega (arith, u .tail-in .there) in
-      (h, m, u .lowest-is ∙ by-array top tail (head + 1 - tail) (omega arith))
+      (h, m, u .cap-is ∙ ap squared (by-array top tail (head + 1 - tail) (omega arith)))
 
-  pub covered-begun : (n top : ℕ) {lowest : ℕ} → lowest ≡ lowestFrom (entry (line .limits)) top 0 1 → IsCovered l n top 0 0 0 lowest
-  covered-begun n top q = covered-first l t a n top _ (q ∙ sym (by-array top 0 1 (omega (arith, counts .0))))
+  pub covered-begun : (n top : ℕ) {cap : ℕ} → cap ≡ squared (lowestFrom (entry (line .limits)) top 0 1) → IsCovered l n top 0 0 0 cap
+  covered-begun n top q = covered-first l t a n top (q ∙ ap squared (sym (by-array top 0 1 (omega (arith, counts .0)))))
 
   pub covered-on :
-      {n top n′ top′ : ℕ} (i : ℕ) {u v : Covered} → IsCovered l n top i (u .head) (u .tail) (u .lowest) → n′ ≡ n → top′ ≡ top →
-      IsNext (line .«limit_points») (line .limits) (line .«limit_count») top′ n′ (i + 1) u v → IsCovered l n top (i + 1) (v .head) (v .tail) (v .lowest)
+      {n top n′ top′ : ℕ} (i : ℕ) {u v : Covered} → IsCovered l n top i (u .head) (u .tail) (u .cap .0) → n′ ≡ n → top′ ≡ top →
+      IsNext (line .«limit_points») (line .limits) (line .«limit_count») top′ n′ (i + 1) u v → IsCovered l n top (i + 1) (v .head) (v .tail) (v .cap .0)
   covered-on {n} {top} i {u} {v} w e f y =
       let x : IsNext (line .«limit_points») (line .limits) (line .«limit_count») top n (i + 1) u v = rw (e, f) at y in
       let c = counts in
@@ -105,4 +101,4 @@ module _ (line : decodedLine.Line) (train : decodedTrain.Train) (a : Admitted (a
       let m : v .tail < line .«limit_count» = rw (x .tail) (next-below (line .«limit_points») (line .«limit_count») (u .tail) (i + 1 - n) (r .1)) in
       covered-next l t a (line .«limit_points») (line .«limit_count») n top i (c .3)
       (λ k g. sym (entry-row (entry (line .«limit_points»)) (line .«limit_count») k g)) w (x .head) (x .tail)
-      (x .lowest ∙ sym (by-array top (v .tail) (v .head + 1 - v .tail) (omega arith)))
+      (x .cap ∙ ap squared (sym (by-array top (v .tail) (v .head + 1 - v .tail) (omega arith))))

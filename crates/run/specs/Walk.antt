@@ -5,6 +5,7 @@ use mathlib.Core.List.{List}
 use mathlib.Core.Path.{_≡_}
 use lib.Dec.{leb, ltb}
 use Rattle.rules.specs.Count.{_and_, entry, lowestFrom}
+use Rattle.rules.specs.Run.{squared}
 use Rattle.run.specs.declared.walk.Covered.{Covered}
 
 -- the next limit where it has begun at cell c, else the same
@@ -19,5 +20,5 @@ pub record StaysUntil (points : List ℕ) (count n head tail until : ℕ) : Type
 pub record IsNext (points limits : List ℕ) (count top n i : ℕ) (before after : Covered) : Type 0 where
   pub head : after .head ≡ nextBegun points count (before .head) i
   pub tail : after .tail ≡ nextBegun points count (before .tail) (i - n)
-  pub lowest : after .lowest ≡ lowestFrom (entry limits) top (after .tail) (after .head + 1 - after .tail)
+  pub cap : after .cap .0 ≡ squared (lowestFrom (entry limits) top (after .tail) (after .head + 1 - after .tail))
   pub stays : StaysUntil points count n (after .head) (after .tail) (after .until)

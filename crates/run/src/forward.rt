@@ -7,8 +7,8 @@ use crate::sweep::last_top;
 use crate::walk::Covered;
 use crate::walk::covered_at;
 use crate::walk::lowest_limit;
-use stops::stop_from;
-use stops::stop_here;
+use stops::first_stop;
+use stops::stop_ahead;
 use values::Line;
 use values::SquaredSpeed;
 use values::Train;
@@ -20,19 +20,18 @@ ghost use Prim.Native.Nat.{_+_, _-_, _≤_, min};
 ghost use lib.ListN.{length, drop};
 ghost use Rattle.rules.specs.Admitted.{Admitted};
 ghost use Rattle.rules.specs.Count.{entry, greatestBelow, row};
-ghost use Rattle.rules.specs.Run.{squared, forward};
+ghost use Rattle.rules.specs.Run.{forward};
 ghost use Rattle.values.specs.Values.{asLine, asTrain};
 ghost use Rattle.run.specs.Traction.{Falls, BandBounds};
 
-// The cap of a speed in km/h: 0 at a stop.
-fn cap_of(stopped: bool, v: u32) -> SquaredSpeed
-    requires { ⌜ v ≤ 300 ⌝ }
-    ensures { λ r. ⌜ r .0 ≡ cond stopped 0 (squared v) ⌝ }
+// The cap is 0 at a stop.
+fn cap_of(stopped: bool, cap: SquaredSpeed) -> SquaredSpeed
+    ensures { λ r. ⌜ r .0 ≡ cond stopped 0 (cap .0) ⌝ }
 {
     if stopped {
         return SquaredSpeed(0);
     }
-    squared_of(v)
+    cap
 }
 
 // The lesser of the cap and the traction step from w. A cap at most w and the square of the last top is at most the step.
@@ -73,17 +72,16 @@ pub(crate) fn write_forward(line: Line, train: Train, speeds: &mut [u32])
     let mut covered = Covered {
         head: 0,
         tail: 0,
-        lowest,
+        cap: squared_of(lowest),
         until: 0,
     };
-    let mut next = 0;
+    let mut stop = first_stop(&stop_points, train.stop_count);
     // The step from the greatest squared speed is at least any cap, so point 0 gets its cap.
     let mut w = SquaredSpeed(900000000);
     let mut i = 0;
     while i < points {
-        next = stop_from(&stop_points, train.stop_count, next, i);
-        let stopped = stop_here(&stop_points, train.stop_count, next, i);
-        let cap = cap_of(stopped, covered.lowest);
+        stop = stop_ahead(&stop_points, train.stop_count, stop, i);
+        let cap = cap_of(stop.point == i, covered.cap);
         w = capped_step(bands.count, &gains, &squares, bands.falling, w, cap);
         speeds[i] = w.0;
         i += 1;

@@ -2,7 +2,8 @@
 use crate::root::root;
 use crate::root::root_after;
 use stops::dwell_at;
-use stops::stop_from;
+use stops::first_stop;
+use stops::stop_ahead;
 use values::Line;
 use values::Speed;
 use values::SquaredSpeed;
@@ -62,7 +63,7 @@ pub(crate) fn write_times(line: Line, train: Train, speeds: &[u32], times: &mut 
     let dwells = train.dwells;
     let last = size(line.points) - 1;
     let mut i = 0;
-    let mut next = 0;
+    let mut stop = first_stop(&stop_points, train.stop_count);
     let mut time = 0;
     let mut cell = CellTime { sum: 0, time: 0 };
     let mut met = [0u32; 512];
@@ -70,8 +71,8 @@ pub(crate) fn write_times(line: Line, train: Train, speeds: &[u32], times: &mut 
     let mut here = root(SquaredSpeed(speeds[0]));
     while i < last {
         times[i] = time;
-        next = stop_from(&stop_points, train.stop_count, next, i);
-        let dwell = dwell_at(&stop_points, &dwells, train.stop_count, next, i);
+        stop = stop_ahead(&stop_points, train.stop_count, stop, i);
+        let dwell = dwell_at(&dwells, stop, i);
         let ahead = SquaredSpeed(speeds[i + 1]);
         let there = root_after(&mut met, &mut roots, SquaredSpeed(speeds[i]), here, ahead);
         cell = cell_after(wide64(line.step), cell, here, there);

@@ -1,17 +1,20 @@
 // The limits that hold in the cells that a train covers, as its head and its tail pass along the line.
+use crate::numbers::squared_of;
+use values::SquaredSpeed;
 use widths::size;
 use widths::wide;
 ghost use mathlib.Core.Path.{_≡_};
 ghost use Prim.Native.Nat.{ℕ, suc, _+_, _-_, _≤_, _<_, min};
 ghost use Rattle.rules.specs.Count.{entry, lowestFrom};
+ghost use Rattle.rules.specs.Run.{squared};
 ghost use Rattle.run.specs.Walk.{nextBegun, StaysUntil, IsNext};
 
-// The limits from the tail's to the head's; `lowest` is the lowest of them and the last band's top, in km/h. They are the same at all points
-// before `until`.
+// The limits from the tail's to the head's, and the cap that the lowest of them and the last band's top give. They are the same at all
+// points before `until`.
 pub struct Covered {
     pub head: usize,
     pub tail: usize,
-    pub lowest: u32,
+    pub cap: SquaredSpeed,
     pub until: usize,
 }
 
@@ -89,8 +92,8 @@ pub(crate) fn covered_at(
     i: usize,
     covered: Covered,
 ) -> Covered
-    requires { ⌜ (covered .head < count) × (covered .tail < count) × (count ≤ 64) × (n ≤ 65536) ⌝ }
-    requires { ⌜ covered .lowest ≡ lowestFrom (entry (now limits)) top (covered .tail) (covered .head + 1 - covered .tail) ⌝ }
+    requires { ⌜ (covered .head < count) × (covered .tail < count) × (count ≤ 64) × (n ≤ 65536) × (top ≤ 300) ⌝ }
+    requires { ⌜ covered .cap .0 ≡ squared (lowestFrom (entry (now limits)) top (covered .tail) (covered .head + 1 - covered .tail)) ⌝ }
     requires { ⌜ StaysUntil (now points) count n (covered .head) (covered .tail) (covered .until) ⌝ }
     requires { ⌜ ((k : ℕ) → suc k < count → 0 < entry (now points) (suc k)) ⌝ }
     ensures { λ r. ⌜ IsNext (now (points .entry)) (now (limits .entry)) count top n i covered r ⌝ }
@@ -103,7 +106,7 @@ pub(crate) fn covered_at(
     Covered {
         head,
         tail,
-        lowest: lowest_limit(limits, top, tail, head),
+        cap: squared_of(lowest_limit(limits, top, tail, head)),
         until: unchanged_until(points, count, n, head, tail),
     }
 }

@@ -7,18 +7,19 @@ use native.Mathlib.Decide.{decLt}
 use native.Mathlib.Nat.{suc-inj, add-zero}
 use native.Mathlib.Numerals.{add-one}
 use native.Mathlib.Omega.{arith}
-use lib.Dec.{ltb, eqb}
+use lib.Dec.{leb, ltb, eqb}
 use lib.ListN.{length, drop, length-drop, drop-of-length-le}
 use lib.Seq.{drop-cons, getD-drop}
-use borrow.Author.Tests.{ltb-true, ltb-false, lt-ltb, le-ltb, eqb-true, eqb-false, eq-eqb, ne-eqb}
-use Rattle.rules.specs.Count.{_and_, entry, row}
+use borrow.Author.Tests.{leb-true, ltb-true, ltb-false, lt-ltb, le-ltb, eqb-true, eqb-false, eq-eqb, ne-eqb}
+use Rattle.rules.specs.Count.{entry, row}
 use Rattle.rules.specs.Line.{Line, Train}
 use Rattle.rules.specs.Run.{listed}
 use Rattle.rules.specs.Time.{dwellFrom, dwell}
-use Rattle.rules.proofs.Count.{rises-far, and-left, and-right, length-row, entry-row}
+use Rattle.rules.proofs.Count.{rises-far, length-row, entry-row}
 use Rattle.rules.proofs.Cap.{listed-there, listed-only}
 use Rattle.rules.proofs.Time.{dwell-none, cond-zero}
-use Rattle.stops.specs.Stops.{used, passedBy, stopFrom, stopHere, dwellHere, Apart, Behind, NextStop}
+use Rattle.stops.specs.declared.Stop.{Stop}
+use Rattle.stops.specs.Stops.{used, passedBy, stopFrom, stopPoint, stopNumber, stopAhead, dwellHere, Apart, Behind, NextStop}
 
 -- ---- the first stop at a point or later
 
@@ -54,21 +55,44 @@ passed-is (x ∷ xs) i = go (ltb x i) refl (passed-is xs i)
         }
     go false e r = record { most = omega arith; before = λ k h. absurd (omega arith); here = λ h. omega (arith, ltb-false x i e) }
 
-pub behind-first : (stops : List ℕ) → Behind stops 0 0
-behind-first stops = record { there = omega arith; passed = λ k h. absurd (omega arith) }
+-- ---- the point of a stop
+
+pub point-there : (stops : List ℕ) {s : ℕ} → s < length stops → stopPoint stops s ≡ entry stops s
+unfolding stopPoint
+point-there stops {s} h = rw (lt-ltb s (length stops) h)
+
+pub point-none : (stops : List ℕ) {s : ℕ} → length stops ≤ s → stopPoint stops s ≡ 65536
+unfolding stopPoint
+point-none stops {s} h = rw (le-ltb s (length stops) h)
+
+-- a stop at a point of a line is there
+at-there : (stops : List ℕ) (s : ℕ) → stopPoint stops s < 65536 → Dec (s < length stops) → s < length stops
+at-there stops s h (yes l) = l
+at-there stops s h (no l) = absurd (omega (arith, point-none stops {s = s} (omega arith)))
 
 module _ (stops : List ℕ) (apart : Apart stops) where
   rise : (j k : ℕ) → j ≤ k → k < length stops → entry stops j ≤ entry stops k
   rise = rises-far (entry stops) (length stops) (λ k h. omega (arith, apart k h))
 
-  pub next-from : {s i : ℕ} → Behind stops s i → NextStop stops (stopFrom stops s i) i
-  unfolding stopFrom
-  next-from {s} {i} b =
+  -- from a stop that is at point i or later, and from one before it
+  next-same : {stop : Stop} {i : ℕ} → Behind stops stop i → i ≤ stop .point → NextStop stops stop i
+  next-same {stop} {i} b h =
       record {
-        behind = record { there = omega (arith, p .most, length-drop s stops, b .there); passed = λ k h. before k h (decLt k s) };
+        behind = b;
+        ahead = λ k p q. omega (arith, b .at, point-there stops {s = stop .number} (omega arith), rise (stop .number) k p q);
+      }
+
+  next-later : {stop : Stop} {i : ℕ} → Behind stops stop i → NextStop stops (stopNumber stops (stopFrom stops (stop .number) i)) i
+  unfolding stopFrom
+  next-later {stop} {i} b =
+      record {
+        behind = record { at = refl; there = omega (arith, p .most, length-drop s stops, b .there); passed = λ k h. before k h (decLt k s) };
         ahead = λ k h g. omega (arith, first (omega arith), rise (s + passedBy (drop s stops) i) k h g);
       }
     where
+      s : ℕ
+      s = stop .number
+
       p : Passed (drop s stops) i (passedBy (drop s stops) i)
       p = passed-is (drop s stops) i
 
@@ -81,45 +105,49 @@ module _ (stops : List ℕ) (apart : Apart stops) where
       first : s + passedBy (drop s stops) i < length stops → i ≤ entry stops (s + passedBy (drop s stops) i)
       first h = rw (getD-drop s stops (passedBy (drop s stops) i) 0) at (p .here (omega (arith, length-drop s stops)))
 
--- further on
-pub behind-on : {stops : List ℕ} {s i j : ℕ} → NextStop stops s i → i ≤ j → Behind stops s j
-behind-on n h = record { there = n .behind .there; passed = λ k l. omega (arith, n .behind .passed k l) }
-
--- ---- which point is a stop
-
-pub here-there : (stops : List ℕ) {s i : ℕ} → stopHere stops s i ≡ true → (s < length stops) × (entry stops s ≡ i)
-unfolding stopHere
-here-there stops e = (ltb-true _ _ (and-left _ _ e), eqb-true _ _ (and-right _ _ e))
-
-pub here-by : (stops : List ℕ) {s : ℕ} (i : ℕ) → s < length stops → stopHere stops s i ≡ eqb (entry stops s) i
-unfolding stopHere _and_
-here-by stops {s} i h = rw (lt-ltb s (length stops) h)
-
-pub here-none : (stops : List ℕ) {s : ℕ} (i : ℕ) → length stops ≤ s → stopHere stops s i ≡ false
-unfolding stopHere _and_
-here-none stops {s} i h = rw (le-ltb s (length stops) h)
-
-module _ (stops : List ℕ) {s i : ℕ} (n : NextStop stops s i) where
-  -- where the next stop is not at point i, no stop is
-  nowhere : Apart stops → stopHere stops s i ≡ false → (k : ℕ) → k < length stops → entry stops k ≡ i → ⊥
-  unfolding stopHere _and_
-  nowhere apart e k h q = go (decLt k s)
+  pub next-from : {stop : Stop} {i : ℕ} → Behind stops stop i → NextStop stops (stopAhead stops stop i) i
+  unfolding stopAhead
+  next-from {stop} {i} b = go (leb i (stop .point)) refl
     where
-      go : Dec (k < s) → ⊥
+      go : (t : Bool) → leb i (stop .point) ≡ t → NextStop stops (cond t stop (stopNumber stops (stopFrom stops (stop .number) i))) i
+      go true e = next-same b (leb-true _ _ e)
+      go false e = next-later b
+
+-- further on
+pub behind-on : {stops : List ℕ} {stop : Stop} {i j : ℕ} → NextStop stops stop i → i ≤ j → Behind stops stop j
+behind-on n h = record { at = n .behind .at; there = n .behind .there; passed = λ k l. omega (arith, n .behind .passed k l) }
+
+-- ---- which point is a stop, and its dwell
+
+module _ (stops : List ℕ) {stop : Stop} {i : ℕ} (n : NextStop stops stop i) (apart : Apart stops) (small : i < 65536) where
+  -- where the next stop is at point i, it is one of the stops
+  here : stop .point ≡ i → (stop .number < length stops) × (entry stops (stop .number) ≡ i)
+  here e =
+      let there : stop .number < length stops = at-there stops (stop .number) (omega (arith, n .behind .at)) (decLt (stop .number) (length stops)) in
+      (there, omega (arith, n .behind .at, point-there stops there))
+
+  -- where it is not, no stop is
+  nowhere : (stop .point ≡ i → ⊥) → (k : ℕ) → k < length stops → entry stops k ≡ i → ⊥
+  nowhere e k h q = go (decLt k (stop .number))
+    where
+      go : Dec (k < stop .number) → ⊥
       go (yes l) = omega (arith, n .behind .passed k l)
       go (no l) =
-          let there : s < length stops = omega arith in
-          let far : entry stops s ≤ entry stops k = rise stops apart s k (omega arith) h in
-          eqb-false (entry stops s) i (rw (lt-ltb s (length stops) there) at e) (omega (arith, n .ahead s (omega arith) there))
+          let there : stop .number < length stops = omega arith in
+          e (omega (
+            arith,
+            n .behind .at,
+            point-there stops there,
+            n .ahead (stop .number) (omega arith) there,
+            rise stops apart (stop .number) k (omega arith) h,
+          ))
 
-  pub stop-is : Apart stops → stopHere stops s i ≡ listed i stops
-  stop-is apart = go (stopHere stops s i) refl
+  pub stop-is : eqb (stop .point) i ≡ listed i stops
+  stop-is = go (eqb (stop .point) i) refl
     where
-      go : (b : Bool) → stopHere stops s i ≡ b → stopHere stops s i ≡ listed i stops
-      go true e = let (h, q) = here-there stops e in e ∙ sym (rw q at (listed-there stops s h))
-      go false e = e ∙ sym (listed-only stops i (nowhere apart e))
-
-  -- ---- the dwell
+      go : (b : Bool) → eqb (stop .point) i ≡ b → eqb (stop .point) i ≡ listed i stops
+      go true e = let (h, q) = here (eqb-true _ _ e) in e ∙ sym (rw q at (listed-there stops (stop .number) h))
+      go false e = e ∙ sym (listed-only stops i (nowhere (eqb-false _ _ e)))
 
   dwell-beside : (ss ds : List ℕ) → length ss ≡ length ds → (s i : ℕ) → ((k : ℕ) → k < s → entry ss k < i) → s < length ss → entry ss s ≡ i →
       dwellFrom ss ds i ≡ entry ds s
@@ -131,23 +159,24 @@ module _ (stops : List ℕ) {s i : ℕ} (n : NextStop stops s i) where
       rw (ne-eqb i x (λ z. omega (arith, before 0 (omega arith))))
       (dwell-beside ss ds (suc-inj e) s i (λ k g. before (suc k) (omega arith)) (omega arith) q)
 
-  -- the rules' dwell, at every point but the last
+  -- the rules' dwell, at every point but the last, from an array that begins with the dwells
   pub dwell-is :
-      (l : Line) (t : Train) → stops ≡ t .stops → Apart stops → length (t .stops) ≡ length (t .dwells) → suc i < l .points →
-      dwellHere stops (t .dwells) s i ≡ dwell l t i
+      (l : Line) (t : Train) (dwells : List ℕ) → stops ≡ t .stops → length (t .stops) ≡ length (t .dwells) →
+      ((k : ℕ) → k < length (t .dwells) → entry dwells k ≡ entry (t .dwells) k) → suc i < l .points → dwellHere dwells stop i ≡ dwell l t i
   unfolding dwellHere dwell
-  dwell-is l t same apart e h = go (stopHere stops s i) refl
+  dwell-is l t dwells same e array h = go (eqb (stop .point) i) refl
     where
       go :
-          (b : Bool) → stopHere stops s i ≡ b →
-          cond (stopHere stops s i) (cond (eqb i 0) 0 (1000000 * entry (t .dwells) s)) 0 ≡ dwell l t i
+          (b : Bool) → eqb (stop .point) i ≡ b →
+          cond (eqb (stop .point) i) (cond (eqb i 0) 0 (1000000 * entry dwells (stop .number))) 0 ≡ dwell l t i
       go true b =
-          let (there, here) = here-there stops b in
-          let beside : dwellFrom (t .stops) (t .dwells) i ≡ entry (t .dwells) s =
-          dwell-beside (t .stops) (t .dwells) e s i (rw same at (n .behind .passed)) (rw same at there) (rw same at here) in
-          rw (b, ne-eqb (suc i) (l .points) (λ z. omega arith), or-false, beside)
+          let (there, is) = here (eqb-true _ _ b) in
+          let long : length stops ≡ length (t .stops) = ap length same in
+          let beside : dwellFrom (t .stops) (t .dwells) i ≡ entry (t .dwells) (stop .number) =
+          dwell-beside (t .stops) (t .dwells) e (stop .number) i (rw same at (n .behind .passed)) (rw same at there) (rw same at is) in
+          rw (b, ne-eqb (suc i) (l .points) (λ z. omega arith), or-false, beside, array (stop .number) (omega arith))
       go false b =
-          let none : dwellFrom (t .stops) (t .dwells) i ≡ 0 = dwell-none (t .stops) (t .dwells) i (rw same at (nowhere apart b)) in
+          let none : dwellFrom (t .stops) (t .dwells) i ≡ 0 = dwell-none (t .stops) (t .dwells) i (rw same at (nowhere (eqb-false _ _ b))) in
           rw (b, ne-eqb (suc i) (l .points) (λ z. omega arith), or-false, none) (sym (cond-zero (eqb i 0)))
 
 -- ---- by the arrays
@@ -162,23 +191,28 @@ module _ (array : List ℕ) (count : ℕ) {s : ℕ} (h : s < min count 64) where
 pub used-all : (array : List ℕ) {count : ℕ} → count ≤ 64 → used array count ≡ row (entry array) count
 used-all array h = ap (row (entry array)) (omega arith)
 
+pub behind-first : (array : List ℕ) {count : ℕ} → count ≤ 64 → {stop : Stop} → stop ≡ stopNumber (used array count) 0 → Behind (row (entry array) count) stop 0
+behind-first array m e =
+    rw (e, used-all array m) (record { at = refl; there = omega arith; passed = λ k h. absurd (omega arith) })
+
 -- at point i, where the code holds the first stop at i or later
 module _
-    (array : List ℕ) {count : ℕ} (m : count ≤ 64) (apart : Apart (row (entry array) count)) {s s′ i : ℕ} (b : Behind (row (entry array) count) s i)
-    (e : s′ ≡ stopFrom (used array count) s i) where
-  pub next-here : NextStop (row (entry array) count) s′ i
+    (array : List ℕ) {count : ℕ} (m : count ≤ 64) (apart : Apart (row (entry array) count)) {stop stop′ : Stop} {i : ℕ}
+    (b : Behind (row (entry array) count) stop i) (e : stop′ ≡ stopAhead (used array count) stop i) where
+  pub next-here : NextStop (row (entry array) count) stop′ i
   next-here = rw (e, used-all array m) (next-from (row (entry array) count) apart b)
 
-  pub here-listed : {stopped : Bool} → stopped ≡ stopHere (used array count) s′ i → stopped ≡ listed i (row (entry array) count)
-  here-listed {stopped} q =
-      let q′ : stopped ≡ stopHere (row (entry array) count) s′ i = rw (used-all array m) at q in
-      q′ ∙ stop-is (row (entry array) count) next-here apart
+  pub here-listed : i < 65536 → eqb (stop′ .point) i ≡ listed i (row (entry array) count)
+  here-listed small = stop-is (row (entry array) count) next-here apart small
 
   pub dwell-here :
       (l : Line) (t : Train) (dwells : List ℕ) {d : ℕ} → row (entry array) count ≡ t .stops → row (entry dwells) count ≡ t .dwells → suc i < l .points →
-      d ≡ dwellHere (used array count) (used dwells count) s′ i → d ≡ dwell l t i
-  dwell-here l t dwells {d} p q h f =
+      i < 65536 → d ≡ dwellHere (used dwells 64) stop′ i → d ≡ dwell l t i
+  dwell-here l t dwells p q h small f =
+      let many = ap length q in
       let long : length (t .stops) ≡ length (t .dwells) =
-      ap length (sym p) ∙ length-row (entry array) count ∙ sym (length-row (entry dwells) count) ∙ ap length q in
-      let f′ : d ≡ dwellHere (row (entry array) count) (t .dwells) s′ i = rw (used-all array m, used-all dwells m, q) at f in
-      f′ ∙ dwell-is (row (entry array) count) next-here l t p apart long h
+      ap length (sym p) ∙ length-row (entry array) count ∙ sym (length-row (entry dwells) count) ∙ many in
+      let same : (k : ℕ) → k < length (t .dwells) → entry (used dwells 64) k ≡ entry (t .dwells) k =
+      λ k g. let n : k < count = omega (arith, length-row (entry dwells) count) in
+      rw (← q) (used-at dwells 64 (omega arith) ∙ sym (entry-row (entry dwells) count k n)) in
+      f ∙ dwell-is (row (entry array) count) next-here apart small l t (used dwells 64) p long same h

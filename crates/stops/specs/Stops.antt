@@ -1,10 +1,12 @@
 -- The stops of a train under way, gone through once in the order of their points.
 use Prim.Native.Nat.{ℕ, suc, _+_, _*_, _≤_, _<_, min}
-use mathlib.Core.Bool.{Bool, cond}
+use mathlib.Core.Bool.{cond}
 use mathlib.Core.List.{List, [], _∷_}
-use lib.Dec.{ltb, eqb}
+use mathlib.Core.Path.{_≡_}
+use lib.Dec.{leb, ltb, eqb}
 use lib.ListN.{length, drop}
-use Rattle.rules.specs.Count.{_and_, entry, row}
+use Rattle.rules.specs.Count.{entry, row}
+use Rattle.stops.specs.declared.Stop.{Stop}
 
 -- the entries in use
 abbrev pub used : List ℕ → ℕ → List ℕ
@@ -19,13 +21,20 @@ passedBy (s ∷ ss) i = cond (ltb s i) (suc (passedBy ss i)) 0
 unfoldable pub stopFrom : List ℕ → ℕ → ℕ → ℕ
 stopFrom stops s i = s + passedBy (drop s stops) i
 
--- stop s is there, and is at point i
-unfoldable pub stopHere : List ℕ → ℕ → ℕ → Bool
-stopHere stops s i = ltb s (length stops) and eqb (entry stops s) i
+-- the point of stop s, beyond every point of a line where there is no such stop
+unfoldable pub stopPoint : List ℕ → ℕ → ℕ
+stopPoint stops s = cond (ltb s (length stops)) (entry stops s) 65536
 
--- the dwell in microseconds beside stop s, where that is at point i and i is not 0
-unfoldable pub dwellHere : List ℕ → List ℕ → ℕ → ℕ → ℕ
-dwellHere stops dwells s i = cond (stopHere stops s i) (cond (eqb i 0) 0 (1000000 * entry dwells s)) 0
+abbrev pub stopNumber : List ℕ → ℕ → Stop
+stopNumber stops s = record { number = s; point = stopPoint stops s }
+
+-- the first stop at point i or later, by the one before
+unfoldable pub stopAhead : List ℕ → Stop → ℕ → Stop
+stopAhead stops before i = cond (leb i (before .point)) before (stopNumber stops (stopFrom stops (before .number) i))
+
+-- the dwell in microseconds beside the stop, where that is at point i and i is not 0
+unfoldable pub dwellHere : List ℕ → Stop → ℕ → ℕ
+dwellHere dwells stop i = cond (eqb (stop .point) i) (cond (eqb i 0) 0 (1000000 * entry dwells (stop .number))) 0
 
 -- ---- what is known on the way
 
@@ -33,12 +42,13 @@ dwellHere stops dwells s i = cond (stopHere stops s i) (cond (eqb i 0) 0 (100000
 abbrev pub Apart : List ℕ → Type 0
 Apart stops = (k : ℕ) → suc k < length stops → entry stops k + 2 ≤ entry stops (suc k)
 
--- the first s stops lie before point i
-pub record Behind (stops : List ℕ) (s i : ℕ) : Type 0 where
-  pub there : s ≤ length stops
-  pub passed : (k : ℕ) → k < s → entry stops k < i
+-- every stop before this one lies before point i
+pub record Behind (stops : List ℕ) (stop : Stop) (i : ℕ) : Type 0 where
+  pub at : stop .point ≡ stopPoint stops (stop .number)
+  pub there : stop .number ≤ length stops
+  pub passed : (k : ℕ) → k < stop .number → entry stops k < i
 
--- stop s is the first at point i or later; there is none where s is the count of stops
-pub record NextStop (stops : List ℕ) (s i : ℕ) : Type 0 where
-  pub behind : Behind stops s i
-  pub ahead : (k : ℕ) → s ≤ k → k < length stops → i ≤ entry stops k
+-- the stop is the first at point i or later; there is none where its number is the count of stops
+pub record NextStop (stops : List ℕ) (stop : Stop) (i : ℕ) : Type 0 where
+  pub behind : Behind stops stop i
+  pub ahead : (k : ℕ) → stop .number ≤ k → k < length stops → i ≤ entry stops k

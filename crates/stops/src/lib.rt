@@ -1,10 +1,16 @@
-// The stops of a train under way, by an index that moves on with the points. Of the arrays the first `count` entries are in use, but no
-// more than 64.
+// The stops of a train under way, gone through once in the order of their points. Of the arrays the first `count` entries are in use, but
+// no more than 64.
 use widths::size;
 use widths::wide64;
 ghost use mathlib.Core.Path.{_≡_};
 ghost use Prim.Native.Nat.{min};
-ghost use Rattle.stops.specs.Stops.{used, stopFrom, stopHere, dwellHere};
+ghost use Rattle.stops.specs.Stops.{used, stopFrom, stopNumber, stopAhead, dwellHere};
+
+// The number of a stop and its point. Where there is no such stop, the point is beyond every point of a line.
+pub struct Stop {
+    pub number: usize,
+    pub point: usize,
+}
 
 fn lesser(a: usize, b: usize) -> usize
     ensures { λ r. ⌜ r ≡ min a b ⌝ }
@@ -12,8 +18,8 @@ fn lesser(a: usize, b: usize) -> usize
     if a < b { a } else { b }
 }
 
-// The first stop from `next` on that is at point i or later, or the count of stops where there is none.
-pub fn stop_from(stops: &[u16; 64], count: usize, next: usize, i: usize) -> usize
+// The number of the first stop from `next` on that is at point i or later, or the count of stops where there is none.
+fn stop_from(stops: &[u16; 64], count: usize, next: usize, i: usize) -> usize
     ensures { λ r. ⌜ r ≡ stopFrom (used (now (stops .entry)) count) next i ⌝ }
 {
     let end = lesser(count, 64);
@@ -27,31 +33,50 @@ pub fn stop_from(stops: &[u16; 64], count: usize, next: usize, i: usize) -> usiz
     s
 }
 
-// Whether stop `next` is at point i.
-pub fn stop_here(stops: &[u16; 64], count: usize, next: usize, i: usize) -> bool
-    ensures { λ r. ⌜ r ≡ stopHere (used (now (stops .entry)) count) next i ⌝ }
+fn stop_number(stops: &[u16; 64], count: usize, number: usize) -> Stop
+    ensures { λ r. ⌜ r ≡ stopNumber (used (now (stops .entry)) count) number ⌝ }
 {
-    if next < lesser(count, 64) {
-        return size(stops[next]) == i;
+    if number < lesser(count, 64) {
+        return Stop {
+            number,
+            point: size(stops[number]),
+        };
     }
-    false
+    Stop {
+        number,
+        point: 65536,
+    }
 }
 
-// The dwell in microseconds where stop `next` is at point i, else 0. The dwell at point 0 does not count.
-pub fn dwell_at<'a>(
-    stops: &'a [u16; 64],
-    dwells: &'a [u16; 64],
-    count: usize,
-    next: usize,
-    i: usize,
-) -> u64
-    ensures { λ r. ⌜ r ≡ dwellHere (used (now (stops .entry)) count) (used (now (dwells .entry)) count) next i ⌝ }
+pub fn first_stop(stops: &[u16; 64], count: usize) -> Stop
+    ensures { λ r. ⌜ r ≡ stopNumber (used (now (stops .entry)) count) 0 ⌝ }
 {
-    if !stop_here(stops, count, next, i) {
+    stop_number(stops, count, 0)
+}
+
+// The first stop at point i or later, where `before` is the first at an earlier point or later.
+pub fn stop_ahead(stops: &[u16; 64], count: usize, before: Stop, i: usize) -> Stop
+    ensures { λ r. ⌜ r ≡ stopAhead (used (now (stops .entry)) count) before i ⌝ }
+{
+    if i <= before.point {
+        return before;
+    }
+    stop_number(stops, count, stop_from(stops, count, before.number, i))
+}
+
+// The dwell in microseconds where the stop is at point i, else 0. The dwell at point 0 does not count.
+pub fn dwell_at(dwells: &[u16; 64], stop: Stop, i: usize) -> u64
+    ensures { λ r. ⌜ r ≡ dwellHere (used (now (dwells .entry)) 64) stop i ⌝ }
+{
+    let number = stop.number;
+    if stop.point != i {
         return 0;
     }
     if i == 0 {
         return 0;
     }
-    1000000 * wide64(dwells[next])
+    if number < 64 {
+        return 1000000 * wide64(dwells[number]);
+    }
+    0
 }

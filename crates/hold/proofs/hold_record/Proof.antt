@@ -9,7 +9,7 @@ use Rattle.rules.proofs.Count.{length-row, entry-row}
 use Rattle.values.specs.Values.{asLine, asTrain}
 use Rattle.holds.specs.Values.{asHold}
 use Rattle.stops.specs.Stops.{Behind, NextStop}
-use Rattle.stops.proofs.Passing.{next-here, dwell-here}
+use Rattle.stops.proofs.Passing.{behind-first, next-here, dwell-here}
 use Rattle.hold.proofs.Filling.{Holds, holds-first, holds-all, approach-asks, point-is, point-on, begin-is, begin-most, clear-on, clear-most}
 use Rattle.hold.proofs.Filling.{end-is, holds-on}
 use borrow.Author.Needs.{needs}
@@ -17,19 +17,19 @@ use Rattle.hold.proofs.hold_record.Statement.{statement}
 use Rattle.hold.proofs.hold_record.Tie as tie
 
 abbrev Inv-loop : tie.InvT-loop
-Inv-loop line train speeds times loss cells clearing starts ends stop-points dwells hold₀ point₀ next₀ j₀ hold point next j =
-    Holds (asLine line) (asTrain train) (asHold hold) point next j
+Inv-loop line train speeds times loss cells clearing starts ends stop-points dwells hold₀ point₀ stop₀ j₀ hold point stop j =
+    Holds (asLine line) (asTrain train) (asHold hold) point stop j
 
 abbrev μ-loop : tie.MeasureT-loop
-μ-loop line train speeds times loss cells clearing starts ends stop-points dwells hold₀ point₀ next₀ j₀ hold point next j =
+μ-loop line train speeds times loss cells clearing starts ends stop-points dwells hold₀ point₀ stop₀ j₀ hold point stop j =
     line .«block_count» - j
 
 abbrev start : tie.Then1 Inv-loop μ-loop → tie.Start Inv-loop μ-loop
-start c = c .before .before .before .before .before .before .before .before .before .before .before .before
+start c = c .before .before .before .before .before .before .before .before .before .before .before .before .before .before
 
 -- on the way through a turn of the loop: the block's start, its approach point, the dwell there, and its end
 abbrev found : tie.After-dwell-at Inv-loop μ-loop → tie.After-approach-point Inv-loop μ-loop
-found c = c .before .before .before .before .before
+found c = c .before .before .before .before
 
 abbrev sized : tie.After-dwell-at Inv-loop μ-loop → tie.After-size Inv-loop μ-loop
 sized c = found c .before
@@ -43,15 +43,15 @@ begun c = c .before .before
 -- G and n
 loss :
     (c : tie.Then1 Inv-loop μ-loop) →
-    c .before .before .before .before .before .before .before .before .before .braking-loss .result ≡
+    c .before .before .before .before .before .before .before .before .before .before .before .braking-loss .result ≡
     brakingLoss (asLine (start c .args .line)) (asTrain (start c .args .train))
-loss c = c .before .before .before .before .before .before .before .before .before .braking-loss .ensures
+loss c = c .before .before .before .before .before .before .before .before .before .before .before .braking-loss .ensures
 
 cells :
     (c : tie.Then1 Inv-loop μ-loop) →
-    c .before .before .before .before .before .before .before .before .train-cells .result ≡
+    c .before .before .before .before .before .before .before .before .before .before .train-cells .result ≡
     trainCells (asLine (start c .args .line)) (asTrain (start c .args .train))
-cells c = c .before .before .before .before .before .before .before .before .train-cells .ensures
+cells c = c .before .before .before .before .before .before .before .before .before .before .train-cells .ensures
 
 -- one of the blocks
 in-block : (c : tie.Then1 Inv-loop μ-loop) → c .before .before .loop .j < length (asLine (start c .args .line) .blockStarts)
@@ -60,10 +60,10 @@ in-block c = rw length-row (omega arith)
 few-blocks : (c : tie.Then1 Inv-loop μ-loop) → c .before .before .loop .j < 32
 few-blocks c = omega (arith, in-block c, start c .pre .0 .rule3Line .blocks-most)
 
-few-stops : (c : tie.Then1 Inv-loop μ-loop) → start c .args .train .«stop_count» ≤ 64
+few-stops : (c : tie.Start Inv-loop μ-loop) → c .args .train .«stop_count» ≤ 64
 few-stops c =
-    let n = length-row (entry (start c .args .train .stops)) (start c .args .train .«stop_count») in
-    omega (arith, start c .pre .0 .rule3Train .stops-most)
+    let n = length-row (entry (c .args .train .stops)) (c .args .train .«stop_count») in
+    omega (arith, c .pre .0 .rule3Train .stops-most)
 
 -- its start and its end
 start-here :
@@ -85,17 +85,17 @@ point-here c =
 
 -- the stops behind it, the next stop, and the dwell
 behind : (c : tie.After-dwell-at Inv-loop μ-loop) →
-    Behind (asTrain (start (in-loop c) .args .train) .stops) (in-loop c .before .before .loop .next) (found c .approach-point .result)
+    Behind (asTrain (start (in-loop c) .args .train) .stops) (in-loop c .before .before .loop .stop) (found c .approach-point .result)
 behind c =
     let b = in-loop c .before .before .loop .inv .behind in
-    record { there = b .there; passed = λ k h. omega (arith, b .passed k h, found c .approach-point .ensures .1) }
+    record { at = b .at; there = b .there; passed = λ k h. omega (arith, b .passed k h, found c .approach-point .ensures .1) }
 
 next-stop :
     (c : tie.After-dwell-at Inv-loop μ-loop) →
-    NextStop (asTrain (start (in-loop c) .args .train) .stops) (c .before .before .before .stop-from .result) (found c .approach-point .result)
+    NextStop (asTrain (start (in-loop c) .args .train) .stops) (c .before .before .stop-ahead .result) (found c .approach-point .result)
 next-stop c =
     let s = start (in-loop c) in
-    next-here (s .args .train .stops) (few-stops (in-loop c)) (s .pre .0 .rule8 .apart) (behind c) (c .before .before .before .stop-from .ensures)
+    next-here (s .args .train .stops) (few-stops s) (s .pre .0 .rule8 .apart) (behind c) (c .before .before .stop-ahead .ensures)
 
 dwelt :
     (c : tie.After-dwell-at Inv-loop μ-loop) →
@@ -103,13 +103,14 @@ dwelt :
 dwelt c =
     let s = start (in-loop c) in
     let train = s .args .train in
-    dwell-here (train .stops) (few-stops (in-loop c)) (s .pre .0 .rule8 .apart) (behind c) (c .before .before .before .stop-from .ensures)
-    (asLine (s .args .line)) (asTrain train) (train .dwells) refl refl (point-here c) (c .dwell-at .ensures)
+    dwell-here (train .stops) (few-stops s) (s .pre .0 .rule8 .apart) (behind c) (c .before .before .stop-ahead .ensures)
+    (asLine (s .args .line)) (asTrain train) (train .dwells) refl refl (point-here c)
+    (omega (arith, point-here c, s .pre .0 .rule3Line .points-most)) (c .dwell-at .ensures)
 
 -- the point where the tail clears the block
 clear-here :
     (c : tie.After-size2 Inv-loop μ-loop) →
-    c .size2 .result + in-loop (begun c) .before .before .before .before .before .before .before .before .train-cells .result < start
+    c .size2 .result + in-loop (begun c) .before .before .before .before .before .before .before .before .before .before .train-cells .result < start
     (in-loop (begun c)) .args .line .points
 clear-here c =
     let o = in-loop (begun c) in
@@ -124,10 +125,13 @@ train-cells-requires c κs = search needs
 clearing-time-requires : tie.Need-clearing-time-requires Inv-loop μ-loop
 clearing-time-requires c κs = search needs
 
+first-stop-requires : tie.Need-first-stop-requires Inv-loop μ-loop
+first-stop-requires c κs = search needs
+
 loop-holds : tie.Need-loop-holds Inv-loop μ-loop
 loop-holds c =
-    let s = c .before .before .before .before .before .before .before .before .before in
-    holds-first _ _ (s .pre .0) refl (sym (length-row _ _))
+    let s = c .before .before .before .before .before .before .before .before .before .before .before in
+    holds-first _ _ (s .pre .0) refl (sym (length-row _ _)) (behind-first (s .args .train .stops) (few-stops s) (c .first-stop .ensures))
 
 mul-size : tie.Need-mul-size Inv-loop μ-loop
 mul-size c = search needs
@@ -145,8 +149,8 @@ approach-point-requires c κs =
     (loss o) (start-here c) (start o .pre .1 .0 .0) in
     (asked .0, (asked .1, asked .2))
 
-stop-from-requires : tie.Need-stop-from-requires Inv-loop μ-loop
-stop-from-requires c κs = search needs
+stop-ahead-requires : tie.Need-stop-ahead-requires Inv-loop μ-loop
+stop-ahead-requires c κs = search needs
 
 dwell-at-requires : tie.Need-dwell-at-requires Inv-loop μ-loop
 dwell-at-requires c κs = search needs
@@ -200,7 +204,7 @@ add-hold-3 c =
       arith,
       clear-most _ _ (start o .pre .0) (o .before .before .loop .inv) (in-block o) (start o .args .times .now) (start o .pre .1 .1 .1)
           (end-here e) (cells o),
-      o .before .before .before .before .before .before .before .clearing-time .ensures .1,
+      o .before .before .before .before .before .before .before .before .before .clearing-time .ensures .1,
     )
 
 mul-hold-4 : tie.Need-mul-hold-4 Inv-loop μ-loop
@@ -228,11 +232,11 @@ loop-again c =
     (begin-is _ _ (start o .pre .0) (o .before .before .loop .inv) (in-block o) (start o .args .speeds .now) (start o .pre .1 .1 .0) (loss o) b p
     (start o .args .times .now) (start o .pre .1 .1 .1) (dwelt d))
     (end-is _ _ (start o .pre .0) (o .before .before .loop .inv) (in-block o) (start o .args .times .now) (start o .pre .1 .1 .1) (end-here e) (cells o)
-    (o .before .before .before .before .before .before .before .clearing-time .ensures .0))
+    (o .before .before .before .before .before .before .before .before .before .clearing-time .ensures .0))
 
 returns : tie.Need-returns Inv-loop μ-loop
 returns c =
-    let s = c .before .before .before .before .before .before .before .before .before .before .before .before in
+    let s = c .before .before .before .before .before .before .before .before .before .before .before .before .before .before in
     holds-all _ _ (s .pre .0) (c .before .before .loop .inv) (rw length-row (omega arith))
 
 pub hold-record-spec : {M : Type 1} → statement M
@@ -244,12 +248,13 @@ hold-record-spec =
     braking-loss-requires
     train-cells-requires
     clearing-time-requires
+    first-stop-requires
     loop-holds
     mul-size
     array-read-size
     size-requires
     approach-point-requires
-    stop-from-requires
+    stop-ahead-requires
     dwell-at-requires
     mul-hold
     shared-slice-read-hold

@@ -1,9 +1,13 @@
 use Prim.Native.Nat.{_-_, _≤_, _<_}
-use mathlib.Core.Path.{_≡_}
+use mathlib.Core.Path.{_≡_, ap, _∙_}
 use native.Mathlib.Numerals.{add-one}
 use native.Mathlib.Omega.{arith}
-use Rattle.rules.specs.Run.{trainCells, lastTop, listed, cap, forward}
+use lib.Dec.{eqb}
+use Rattle.rules.specs.Count.{entry}
+use Rattle.rules.specs.Run.{squared, trainCells, lastTop, listed, cap, forward}
+use Rattle.rules.proofs.Count.{lowest-le}
 use Rattle.rules.proofs.Cap.{cap-top, cap-most}
+use Rattle.rules.proofs.Step.{last-top-most}
 use Rattle.rules.proofs.Fill.{Filled, fill-none, fill-up, fill-done}
 use Rattle.values.specs.Values.{asLine, asTrain}
 use Rattle.stops.specs.Stops.{Behind, NextStop}
@@ -12,31 +16,31 @@ use Rattle.run.specs.Traction.{IsBands}
 use Rattle.run.specs.Walk.{StaysUntil}
 use Rattle.run.proofs.Limits.{IsCovered, stays-none, cells-most}
 use Rattle.run.proofs.Traction.{count-least, count-most, bands-bounded, traction-is, last-most}
-use Rattle.run.proofs.Sweeping.{Before, before-start, before-next, forward-at, cap-at, covered-most, counts, points-positive, covered-ready, covered-begun}
+use Rattle.run.proofs.Sweeping.{Before, before-start, before-next, forward-at, cap-at, counts, points-positive, covered-ready, covered-begun}
 use Rattle.run.proofs.Sweeping.{covered-on}
 use borrow.Author.Needs.{needs}
 use Rattle.run.proofs.forward.write_forward.Statement.{statement}
 use Rattle.run.proofs.forward.write_forward.Tie as tie
 
 abbrev Inv-loop : tie.InvT-loop
-Inv-loop line train speeds₀ points limit-points limits stop-points n top bands gains squares lowest covered₀ next₀ w₀ i₀ speeds covered next w i =
+Inv-loop line train speeds₀ points limit-points limits stop-points n top bands gains squares lowest covered₀ stop₀ w₀ i₀ speeds covered stop w i =
     (i ≤ points)
-    × IsCovered (asLine line) (trainCells (asLine line) (asTrain train)) (lastTop (asTrain train)) i (covered .head) (covered .tail) (covered .lowest)
-    × Behind (asTrain train .stops) next i
+    × IsCovered (asLine line) (trainCells (asLine line) (asTrain train)) (lastTop (asTrain train)) i (covered .head) (covered .tail) (covered .cap .0)
+    × Behind (asTrain train .stops) stop i
     × Before (asLine line) (asTrain train) i (w .0)
     × (w .0 ≤ 900000000)
     × Filled (forward (asLine line) (asTrain train)) 0 i speeds₀ speeds
     × StaysUntil limit-points (line .«limit_count») n (covered .head) (covered .tail) (covered .until)
 
 abbrev μ-loop : tie.MeasureT-loop
-μ-loop line train speeds₀ points limit-points limits stop-points n top bands gains squares lowest covered₀ next₀ w₀ i₀ speeds covered next w i =
+μ-loop line train speeds₀ points limit-points limits stop-points n top bands gains squares lowest covered₀ stop₀ w₀ i₀ speeds covered stop w i =
     points - i
 
 abbrev in-loop : tie.After-cap-of Inv-loop μ-loop → tie.In-loop Inv-loop μ-loop
-in-loop c = c .before .before .before .before .before
+in-loop c = c .before .before .before .before
 
 abbrev begun : tie.In-loop Inv-loop μ-loop → tie.After-bands-of Inv-loop μ-loop
-begun c = c .before .before .before .before .before .before
+begun c = c .before .before .before .before .before .before .before .before .before
 
 abbrev start : tie.In-loop Inv-loop μ-loop → tie.Start Inv-loop μ-loop
 start c = begun c .before .before .before .before .before .before .before .before
@@ -55,23 +59,24 @@ on-line c = omega (arith, c .loop-test .taken, begun c .before .before .before .
 near : (c : tie.In-loop Inv-loop μ-loop) → c .before .loop .i < 65536
 near c = omega (arith, c .loop-test .taken, begun c .before .before .before .before .before .before .size .ensures .1)
 
--- the next stop, whether the train stops at this point, and the cap there
+-- the stops in use, the next stop, whether the train stops at this point, and the cap there
+few : (c : tie.Start Inv-loop μ-loop) → c .args .train .«stop_count» ≤ 64
+few c = omega (arith, counts (c .args .line) (c .args .train) (c .pre .0))
+
 next-stop :
     (c : tie.After-cap-of Inv-loop μ-loop) →
-    NextStop (asTrain (start (in-loop c) .args .train) .stops) (c .before .before .before .stop-from .result) (in-loop c .before .loop .i)
+    NextStop (asTrain (start (in-loop c) .args .train) .stops) (c .before .before .stop-ahead .result) (in-loop c .before .loop .i)
 next-stop c =
     let o = in-loop c in
     let s = start o in
-    next-here (s .args .train .stops) (omega (arith, counts (s .args .line) (s .args .train) (s .pre .0))) (s .pre .0 .rule8 .apart)
-    (o .before .loop .inv .2) (c .before .before .before .stop-from .ensures)
+    next-here (s .args .train .stops) (few s) (s .pre .0 .rule8 .apart) (o .before .loop .inv .2) (c .before .before .stop-ahead .ensures)
 
-stopped : (c : tie.After-cap-of Inv-loop μ-loop) → c .before .stop-here .result ≡
+stopped : (c : tie.After-cap-of Inv-loop μ-loop) → eqb (c .before .before .stop-ahead .result .point) (in-loop c .before .loop .i) ≡
     listed (in-loop c .before .loop .i) (asTrain (start (in-loop c) .args .train) .stops)
 stopped c =
     let o = in-loop c in
     let s = start o in
-    here-listed (s .args .train .stops) (omega (arith, counts (s .args .line) (s .args .train) (s .pre .0))) (s .pre .0 .rule8 .apart)
-    (o .before .loop .inv .2) (c .before .before .before .stop-from .ensures) (c .before .stop-here .ensures)
+    here-listed (s .args .train .stops) (few s) (s .pre .0 .rule8 .apart) (o .before .loop .inv .2) (c .before .before .stop-ahead .ensures) (near o)
 
 cap-here :
     (c : tie.After-cap-of Inv-loop μ-loop) →
@@ -97,29 +102,41 @@ bands-of-requires c κs = search needs
 lowest-limit-requires : tie.Need-lowest-limit-requires Inv-loop μ-loop
 lowest-limit-requires c κs = search needs
 
+squared-of-requires : tie.Need-squared-of-requires Inv-loop μ-loop
+squared-of-requires c κs =
+    let t = c .before .before .before .before .before in
+    let s = t .before .before .before .before .before .before .before in
+    omega (
+      arith,
+      c .lowest-limit .ensures,
+      lowest-le (entry (s .args .line .limits)) (t .last-top .result) 0 1,
+      t .last-top .ensures,
+      last-top-most _ _ (s .pre .0),
+    )
+
+first-stop-requires : tie.Need-first-stop-requires Inv-loop μ-loop
+first-stop-requires c κs = search needs
+
 loop-holds : tie.Need-loop-holds Inv-loop μ-loop
 loop-holds c =
-    let t = c .before .before .before .before .before in
+    let cap = c .before .before in
+    let t = cap .before .before .before .before .before .before in
     let s = t .before .before .before .before .before .before .before in (
       omega arith,
-      covered-begun (s .args .line) (s .args .train) (s .pre .0) _ _ (rw (t .last-top .ensures) at (c .lowest-limit .ensures)),
-      behind-first _,
+      covered-begun (s .args .line) (s .args .train) (s .pre .0) _ _
+          (cap .squared-of .ensures ∙ ap squared (rw (t .last-top .ensures) at (cap .before .lowest-limit .ensures))),
+      behind-first (s .args .train .stops) (few s) (c .first-stop .ensures),
       before-start _ _,
       omega arith,
       fill-none _ _ _,
       stays-none _ _ _ _ _,
     )
 
-stop-from-requires : tie.Need-stop-from-requires Inv-loop μ-loop
-stop-from-requires c κs = search needs
-
-stop-here-requires : tie.Need-stop-here-requires Inv-loop μ-loop
-stop-here-requires c κs = search needs
+stop-ahead-requires : tie.Need-stop-ahead-requires Inv-loop μ-loop
+stop-ahead-requires c κs = search needs
 
 cap-of-requires : tie.Need-cap-of-requires Inv-loop μ-loop
-cap-of-requires c κs =
-    let o = c .before .before .before .before in
-    covered-most _ _ (start o .pre .0) (o .before .loop .inv .1)
+cap-of-requires c κs = search needs
 
 capped-step-requires : tie.Need-capped-step-requires Inv-loop μ-loop
 capped-step-requires c κs =
@@ -150,7 +167,7 @@ covered-at-requires c κs =
     let r = covered-ready (s .args .line) (s .args .train) (s .pre .0) (o .before .loop .inv .1) in
     let n = counts (s .args .line) (s .args .train) (s .pre .0) in
     let cells = begun o .before .before .train-cells .ensures in (
-      (r .0, r .1, n .1, omega (arith, cells, cells-most _ _ (s .pre .0))),
+      (r .0, r .1, n .1, omega (arith, cells, cells-most _ _ (s .pre .0)), omega (arith, top o, last-top-most _ _ (s .pre .0))),
       (rw (top o) (r .2), (o .before .loop .inv .6, points-positive (s .args .line) (s .args .train) (s .pre .0))),
     )
 
@@ -183,7 +200,7 @@ same-length c = c .before .loop .inv .5 .long
 returns : tie.Need-returns Inv-loop μ-loop
 returns c =
     let o = c .before in
-    let n = o .before .before .before .before .before .before .before .before .before .before .before in
+    let n = o .before .before .before .before .before .before .before .before .before .before .before .before .before .before in
     let s = n .before .before in
     let e : o .loop .i ≡ s .args .line .points = omega (arith, c .loop-test .left, n .size .ensures .0) in
     fill-done (rw e at (o .loop .inv .5)) (s .pre .1)
@@ -199,9 +216,10 @@ write-forward-spec =
     last-top-requires
     bands-of-requires
     lowest-limit-requires
+    squared-of-requires
+    first-stop-requires
     loop-holds
-    stop-from-requires
-    stop-here-requires
+    stop-ahead-requires
     cap-of-requires
     capped-step-requires
     mul-speeds

@@ -8,7 +8,7 @@ use Rattle.rules.specs.Time.{root, dwell}
 use Rattle.rules.proofs.Count.{length-row}
 use Rattle.values.specs.Values.{asLine, asTrain}
 use Rattle.stops.specs.Stops.{NextStop}
-use Rattle.stops.proofs.Passing.{next-here, dwell-here, behind-on}
+use Rattle.stops.proofs.Passing.{behind-first, next-here, dwell-here, behind-on}
 use Rattle.run.specs.Roots.{RootsMet}
 use Rattle.run.specs.Times.{IsCellTime}
 use Rattle.run.proofs.RootsMet.{met-none}
@@ -18,18 +18,18 @@ use Rattle.run.proofs.times.write_times.Statement.{statement}
 use Rattle.run.proofs.times.write_times.Tie as tie
 
 abbrev Inv-loop : tie.InvT-loop
-Inv-loop line train speeds times₀ stop-points dwells last i₀ next₀ time₀ cell₀ met₀ roots₀ here₀ times i next time cell met roots here =
-    Arrived (asLine line) (asTrain train) times₀ i next time (here .0) times × RootsMet met roots × IsCellTime (line .step) cell
+Inv-loop line train speeds times₀ stop-points dwells last i₀ stop₀ time₀ cell₀ met₀ roots₀ here₀ times i stop time cell met roots here =
+    Arrived (asLine line) (asTrain train) times₀ i stop time (here .0) times × RootsMet met roots × IsCellTime (line .step) cell
 
 abbrev μ-loop : tie.MeasureT-loop
-μ-loop line train speeds times₀ stop-points dwells last i₀ next₀ time₀ cell₀ met₀ roots₀ here₀ times i next time cell met roots here =
+μ-loop line train speeds times₀ stop-points dwells last i₀ stop₀ time₀ cell₀ met₀ roots₀ here₀ times i stop time cell met roots here =
     last - i
 
 abbrev in-loop : tie.After-dwell-at Inv-loop μ-loop → tie.In-loop Inv-loop μ-loop
-in-loop c = c .before .before .before .before .before
+in-loop c = c .before .before .before .before
 
 abbrev start : tie.In-loop Inv-loop μ-loop → tie.Start Inv-loop μ-loop
-start c = c .before .before .before .before .before .before .before .before .before
+start c = c .before .before .before .before .before .before .before .before .before .before .before
 
 abbrev rooted : tie.After-wide64 Inv-loop μ-loop → tie.After-root-after Inv-loop μ-loop
 rooted c = c .before .before .before
@@ -39,7 +39,7 @@ dwelled c = c .before .before .before .before .before
 
 -- the point after this one is on the line, and its squared speed is the run's
 ahead : (c : tie.In-loop Inv-loop μ-loop) → c .before .loop .i + 1 < start c .args .line .points
-ahead c = omega (arith, c .before .before .before .before .size .ensures .0)
+ahead c = omega (arith, c .before .before .before .before .before .before .size .ensures .0)
 
 speed-ahead :
     (c : tie.In-loop Inv-loop μ-loop) →
@@ -48,28 +48,30 @@ speed-ahead :
 speed-ahead c = start c .pre .1 .1 (c .before .loop .i + 1) (ahead c)
 
 -- the stops in use
-few : (c : tie.In-loop Inv-loop μ-loop) → start c .args .train .«stop_count» ≤ 64
+few : (c : tie.Start Inv-loop μ-loop) → c .args .train .«stop_count» ≤ 64
 few c =
-    let n = length-row (entry (start c .args .train .stops)) (start c .args .train .«stop_count») in
-    omega (arith, start c .pre .0 .rule3Train .stops-most)
+    let n = length-row (entry (c .args .train .stops)) (c .args .train .«stop_count») in
+    omega (arith, c .pre .0 .rule3Train .stops-most)
 
 -- the next stop, and the dwell at this point
 next-stop :
     (c : tie.After-dwell-at Inv-loop μ-loop) →
-    NextStop (asTrain (start (in-loop c) .args .train) .stops) (c .before .before .before .stop-from .result) (in-loop c .before .loop .i)
+    NextStop (asTrain (start (in-loop c) .args .train) .stops) (c .before .before .stop-ahead .result) (in-loop c .before .loop .i)
 next-stop c =
     let o = in-loop c in
     let s = start o in
-    next-here (s .args .train .stops) (few o) (s .pre .0 .rule8 .apart) (o .before .loop .inv .0 .stop) (c .before .before .before .stop-from .ensures)
+    next-here (s .args .train .stops) (few s) (s .pre .0 .rule8 .apart) (o .before .loop .inv .0 .behind) (c .before .before .stop-ahead .ensures)
 
 dwelt :
     (c : tie.After-dwell-at Inv-loop μ-loop) →
     c .dwell-at .result ≡ dwell (asLine (start (in-loop c) .args .line)) (asTrain (start (in-loop c) .args .train)) (in-loop c .before .loop .i)
 dwelt c =
     let o = in-loop c in
-    let train = start o .args .train in
-    dwell-here (train .stops) (few o) (start o .pre .0 .rule8 .apart) (o .before .loop .inv .0 .stop) (c .before .before .before .stop-from .ensures)
-    (asLine (start o .args .line)) (asTrain train) (train .dwells) refl refl (omega (arith, ahead o)) (c .dwell-at .ensures)
+    let s = start o in
+    let train = s .args .train in
+    dwell-here (train .stops) (few s) (s .pre .0 .rule8 .apart) (o .before .loop .inv .0 .behind) (c .before .before .stop-ahead .ensures)
+    (asLine (s .args .line)) (asTrain train) (train .dwells) refl refl (omega (arith, ahead o))
+    (omega (arith, ahead o, s .pre .0 .rule3Line .points-most)) (c .dwell-at .ensures)
 
 size-requires : tie.Need-size-requires Inv-loop μ-loop
 size-requires c κs = search needs
@@ -77,16 +79,20 @@ size-requires c κs = search needs
 sub-last : tie.Need-sub-last Inv-loop μ-loop
 sub-last c = search needs
 
-shared-slice-read-t20 : tie.Need-shared-slice-read-t20 Inv-loop μ-loop
-shared-slice-read-t20 c = search needs
+first-stop-requires : tie.Need-first-stop-requires Inv-loop μ-loop
+first-stop-requires c κs = search needs
+
+shared-slice-read-t21 : tie.Need-shared-slice-read-t21 Inv-loop μ-loop
+shared-slice-read-t21 c = search needs
 
 root-requires : tie.Need-root-requires Inv-loop μ-loop
 root-requires c κs = search needs
 
 loop-holds : tie.Need-loop-holds Inv-loop μ-loop
 loop-holds c =
-    let a = c .before .before .before .before .before .before .before in (
-      arrived-first _ _ (a .pre .0) (c .root .ensures .0) (a .pre .1 .1 0 (omega (arith, a .pre .0 .rule3Line .points-least))) (c .root .ensures .1),
+    let first = c .before .before in
+    let a = first .before .before .before .before .before .before .before in (
+      arrived-first _ _ (a .pre .0) (behind-first (a .args .train .stops) (few a) (first .first-stop .ensures)) (c .root .ensures .0) (a .pre .1 .1 0 (omega (arith, a .pre .0 .rule3Line .points-least))) (c .root .ensures .1),
       met-none,
       λ h. absurd (omega arith),
     )
@@ -97,14 +103,14 @@ mul-times c = search needs
 slice-write-times : tie.Need-slice-write-times Inv-loop μ-loop
 slice-write-times c = search needs
 
-stop-from-requires : tie.Need-stop-from-requires Inv-loop μ-loop
-stop-from-requires c κs = search needs
+stop-ahead-requires : tie.Need-stop-ahead-requires Inv-loop μ-loop
+stop-ahead-requires c κs = search needs
 
 dwell-at-requires : tie.Need-dwell-at-requires Inv-loop μ-loop
 dwell-at-requires c κs = search needs
 
-add-t23 : tie.Need-add-t23 Inv-loop μ-loop
-add-t23 c = search needs
+add-t24 : tie.Need-add-t24 Inv-loop μ-loop
+add-t24 c = search needs
 
 mul-t28 : tie.Need-mul-t28 Inv-loop μ-loop
 mul-t28 c = search needs
@@ -118,11 +124,13 @@ slice-aggregate-root-after c = search needs
 slice-aggregate-root-after-2 : tie.Need-slice-aggregate-root-after-2 Inv-loop μ-loop
 slice-aggregate-root-after-2 c = search needs
 
-mul-t23 : tie.Need-mul-t23 Inv-loop μ-loop
-mul-t23 c = search needs
+mul-t24 : tie.Need-mul-t24 Inv-loop μ-loop
+mul-t24 c = search needs
 
 shared-slice-read-t30-2 : tie.Need-shared-slice-read-t30-2 Inv-loop μ-loop
-shared-slice-read-t30-2 c = search needs
+shared-slice-read-t30-2 c =
+    let o = in-loop (c .before .before .before .before) in
+    omega (arith, ahead o, start o .pre .1 .0 .0)
 
 root-after-requires : tie.Need-root-after-requires Inv-loop μ-loop
 root-after-requires c κs =
@@ -165,7 +173,9 @@ add-time-2 : tie.Need-add-time-2 Inv-loop μ-loop
 add-time-2 c = omega (arith, clock (c .before))
 
 add-i : tie.Need-add-i Inv-loop μ-loop
-add-i c = search needs
+add-i c =
+    let o = in-loop (dwelled (rooted (c .before .before))) in
+    omega (arith, ahead o, start o .pre .0 .rule3Line .points-most)
 
 loop-less : tie.Need-loop-less Inv-loop μ-loop
 loop-less c = search needs
@@ -194,7 +204,7 @@ same-length c = simp length-set (c .before .loop .inv .0 .filled .long)
 
 returns : tie.Need-returns Inv-loop μ-loop
 returns c =
-    let s = c .before .before .before .before in
+    let s = c .before .before .before .before .before .before in
     let a = s .before .before .before .before .before in
     arrived-last _ _ (a .pre .0) (c .before .loop .inv .0) (omega (arith, s .size .ensures .0)) (a .pre .1 .0 .1)
 
@@ -206,19 +216,20 @@ write-times-spec =
     μ-loop
     size-requires
     sub-last
-    shared-slice-read-t20
+    first-stop-requires
+    shared-slice-read-t21
     root-requires
     loop-holds
     mul-times
     slice-write-times
-    stop-from-requires
+    stop-ahead-requires
     dwell-at-requires
-    add-t23
+    add-t24
     mul-t28
     shared-slice-read-t30
     slice-aggregate-root-after
     slice-aggregate-root-after-2
-    mul-t23
+    mul-t24
     shared-slice-read-t30-2
     root-after-requires
     wide64-requires

@@ -1,6 +1,9 @@
 use native.Mathlib.Omega.{arith}
-use Prim.Native.Nat.{_<_}
+use Prim.Native.Nat.{_+_, _-_, _<_}
 use mathlib.Core.Path.{ap, _∙_}
+use Rattle.rules.specs.Count.{entry}
+use Rattle.rules.specs.Run.{squared}
+use Rattle.rules.proofs.Count.{lowest-le}
 use Rattle.run.specs.Walk.{nextBegun}
 use Rattle.run.proofs.Limits.{next-below}
 use borrow.Author.Needs.{needs}
@@ -28,7 +31,7 @@ returns c =
     record {
       head = stays .by-head (s .args .i) (c .if1 .taken);
       tail = stays .by-tail (s .args .i) (c .if1 .taken);
-      lowest = s .pre .1 .0;
+      cap = s .pre .1 .0;
       stays = stays;
     }
 
@@ -44,20 +47,29 @@ next-begun-requires-2 c κs = search needs
 lowest-limit-requires : tie.Need-lowest-limit-requires
 lowest-limit-requires c κs = omega (arith, head-below c, start c .pre .0 .2)
 
+squared-of-requires : tie.Need-squared-of-requires
+squared-of-requires c κs =
+    let n = c .before in
+    let s = start n in
+    let head = n .before .before .next-begun .result in
+    let tail = n .next-begun2 .result in
+    omega (arith, c .lowest-limit .ensures, lowest-le (entry (s .args .limits .now)) (s .args .top) tail (head + 1 - tail), s .pre .0 .4)
+
 unchanged-until-requires : tie.Need-unchanged-until-requires
 unchanged-until-requires c κs =
-    let n = c .before in
+    let n = c .before .before in
     let s = start n in
     ((head-below n, tail-below n, s .pre .0 .2, s .pre .0 .3), s .pre .1 .1 .1)
 
 returns-2 : tie.Need-returns-2
 returns-2 c =
-    let lowest = c .before in
+    let cap = c .before in
+    let lowest = cap .before in
     let n = lowest .before in
     record {
       head = n .before .before .next-begun .ensures;
       tail = n .next-begun2 .ensures ∙ ap (nextBegun _ _ _) (n .before .less .ensures);
-      lowest = lowest .lowest-limit .ensures;
+      cap = cap .squared-of .ensures ∙ ap squared (lowest .lowest-limit .ensures);
       stays = c .unchanged-until .ensures;
     }
 
@@ -70,5 +82,6 @@ covered-at-spec =
     less-requires
     next-begun-requires-2
     lowest-limit-requires
+    squared-of-requires
     unchanged-until-requires
     returns-2)
