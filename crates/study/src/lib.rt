@@ -34,7 +34,43 @@ fn lesser(a: usize, b: usize) -> usize
     if a < b { a } else { b }
 }
 
-// Writes the columns of an accepted file.
+// Writes the columns of an accepted file, with buffers for the run of a train.
+fn write_rows_with(
+    file: &[u8],
+    opened: FileAnswer,
+    speeds: &mut [u32],
+    times: &mut [u64],
+    starts: &mut [u64],
+    runs: &mut [u64],
+    blocks: &mut [u64],
+)
+    requires { ⌜ (fileRefusal (now file) ≡ 0) × (opened ≡ openedFile (now file)) ⌝ }
+    requires { ⌜
+        (trainCount (now file) ≤ length (now starts)) × (trainCount (now file) ≤ length (now runs)) × (trainCount (now file) ≤ length (now blocks)) ⌝ }
+    requires { ⌜ (opened .line .points ≤ length (now speeds)) × (opened .line .points ≤ length (now times)) ⌝ }
+    ensures { λ _. ⌜
+        (now (starts .exit) ≡ written (now (starts .entry)) 0 (startsOf (now (file .entry))))
+        × (now (runs .exit) ≡ written (now (runs .entry)) 0 (runsOf (now (file .entry))))
+        × (now (blocks .exit) ≡ written (now (blocks .entry)) 0 (blocksOf (now (file .entry)))) ⌝ }
+{
+    let line = opened.line;
+    let mut sheet = sheet::open_sheet(line.block_count as u64).sheet;
+    let mut at = opened.at;
+    let mut k = 0;
+    while k < opened.trains {
+        let timed = time_train(line, &file[at..], speeds, times);
+        let added = sheet::with_hold(sheet, timed.hold);
+        let answer = added.answer;
+        sheet = added.sheet;
+        starts[k] = start_of(answer);
+        runs[k] = timed.run;
+        blocks[k] = block_of(answer);
+        at += record_size(&file[at..]);
+        k += 1;
+    }
+}
+
+// Writes the columns of an accepted file. Clearing long buffers would take longer than the runs of a short line, so that gets short ones.
 fn write_rows(
     file: &[u8],
     opened: FileAnswer,
@@ -50,23 +86,15 @@ fn write_rows(
         × (now (runs .exit) ≡ written (now (runs .entry)) 0 (runsOf (now (file .entry))))
         × (now (blocks .exit) ≡ written (now (blocks .entry)) 0 (blocksOf (now (file .entry)))) ⌝ }
 {
-    let line = opened.line;
+    if opened.line.points <= 256 {
+        let mut speeds = [0u32; 256];
+        let mut times = [0u64; 256];
+        write_rows_with(file, opened, &mut speeds, &mut times, starts, runs, blocks);
+        return;
+    }
     let mut speeds = [0u32; 4096];
     let mut times = [0u64; 4096];
-    let mut sheet = sheet::open_sheet(line.block_count as u64).sheet;
-    let mut at = opened.at;
-    let mut k = 0;
-    while k < opened.trains {
-        let timed = time_train(line, &file[at..], &mut speeds, &mut times);
-        let added = sheet::with_hold(sheet, timed.hold);
-        let answer = added.answer;
-        sheet = added.sheet;
-        starts[k] = start_of(answer);
-        runs[k] = timed.run;
-        blocks[k] = block_of(answer);
-        at += record_size(&file[at..]);
-        k += 1;
-    }
+    write_rows_with(file, opened, &mut speeds, &mut times, starts, runs, blocks);
 }
 
 // The start, the running time and the block of each train of a file, in its order: rules 1 to 9, then 11 where a slice has fewer places than

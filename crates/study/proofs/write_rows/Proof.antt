@@ -1,216 +1,77 @@
-use Prim.Native.Nat.{_-_, _<_}
-use mathlib.Core.Path.{_≡_, refl, ap, _∙_}
-use native.Mathlib.Numerals.{add-one}
-use native.Mathlib.Omega.{arith}
-use lib.ListN.{length}
-use Rattle.rules.specs.File.{trainCount}
-use Rattle.rules.specs.Text.{startOf, blockOf, runningTime}
-use Rattle.rules.proofs.Accepted.{file-there}
-use Rattle.rules.proofs.File.{part-inside}
-use Rattle.rules.proofs.Fill.{Filled, fill-none, fill-up}
-use Rattle.reading.specs.Decoded.{decodedLine}
-use Rattle.line.proofs.Opening.{file-number, file-trains, file-place, file-line}
-use Rattle.sheet.specs.Values.{asSheet}
-use Rattle.study.specs.Rows.{startAt, blockAt}
-use Rattle.study.proofs.Through.{Through, few-trains, points-most, sheet-opened, through-first, next-admitted, next-decodes, next-run, next-answer}
-use Rattle.study.proofs.Through.{through-next, column-written}
+use mathlib.Core.Path.{_∙_}
+use Rattle.line.proofs.Opening.{file-number, file-line}
+use Rattle.study.proofs.Through.{points-most}
 use borrow.Author.Needs.{needs}
 use Rattle.study.proofs.write_rows.Statement.{statement}
 use Rattle.study.proofs.write_rows.Tie as tie
 
-abbrev Inv-loop : tie.InvT-loop
-Inv-loop file opened starts₀ runs₀ blocks₀ line speeds₀ times₀ sheet₀ at₀ k₀ starts runs blocks speeds times sheet at k =
-    Through file (asSheet sheet) at k
-    × ((length speeds ≡ 4096) × (length times ≡ 4096))
-    × (Filled (startAt file) 0 k starts₀ starts × Filled (runningTime file) 0 k runs₀ runs × Filled (blockAt file) 0 k blocks₀ blocks)
+abbrev start : tie.After-struct-known → tie.Start
+start c = c .before .before .before .before .before
 
-abbrev μ-loop : tie.MeasureT-loop
-μ-loop file opened starts₀ runs₀ blocks₀ line speeds₀ times₀ sheet₀ at₀ k₀ starts runs blocks speeds times sheet at k =
-    opened .trains - k
+slice-aggregate-write-rows-with : tie.Need-slice-aggregate-write-rows-with
+slice-aggregate-write-rows-with c = search needs
 
-abbrev in-loop : tie.After-start-of Inv-loop μ-loop → tie.Then1 Inv-loop μ-loop
-in-loop c = c .before .before .before .before .before .before .before .before .before
+slice-aggregate-write-rows-with-2 : tie.Need-slice-aggregate-write-rows-with-2
+slice-aggregate-write-rows-with-2 c = search needs
 
-abbrev start : tie.Then1 Inv-loop μ-loop → tie.Start Inv-loop μ-loop
-start c = c .before .before .before .before .before .before .before .before .before .before
+write-rows-with-requires : tie.Need-write-rows-with-requires
+write-rows-with-requires c κs =
+    let o = c .before .before .before .before .before in
+    let s = start (o .before) in
+    (s .pre .0, (s .pre .1, (o .if1 .taken, o .if1 .taken)))
 
--- the line is the file's, and train k is one of its trains
-line : (c : tie.Then1 Inv-loop μ-loop) → start c .args .opened .line ≡ decodedLine (start c .args .file .now)
-line c = let s = start c in file-line _ (s .pre .0 .1) (file-number _ (s .pre .0 .1) ∙ s .pre .0 .0)
+same-length : tie.Need-same-length
+same-length c = search needs
 
-more : (c : tie.Then1 Inv-loop μ-loop) → c .before .before .loop .k < trainCount (start c .args .file .now)
-more c =
-    let s = start c in
-    omega (arith, file-trains _ (s .pre .0 .1) (file-number _ (s .pre .0 .1) ∙ s .pre .0 .0), c .if1 .taken)
+same-length-2 : tie.Need-same-length-2
+same-length-2 c = search needs
 
-room : (c : tie.Then1 Inv-loop μ-loop) → c .before .before .loop .k < 64
-room c = omega (arith, more c, few-trains _ (start c .pre .0 .0))
+same-length-3 : tie.Need-same-length-3
+same-length-3 c = search needs
 
-open-sheet-requires : tie.Need-open-sheet-requires Inv-loop μ-loop
-open-sheet-requires c κs = search needs
+returns : tie.Need-returns
+returns c = search needs
 
-loop-holds : tie.Need-loop-holds Inv-loop μ-loop
-loop-holds c =
-    let s = c .before .before .before .before .before .before .before in
+slice-aggregate-write-rows-with-3 : tie.Need-slice-aggregate-write-rows-with-3
+slice-aggregate-write-rows-with-3 c = search needs
+
+slice-aggregate-write-rows-with-4 : tie.Need-slice-aggregate-write-rows-with-4
+slice-aggregate-write-rows-with-4 c = search needs
+
+write-rows-with-requires-2 : tie.Need-write-rows-with-requires-2
+write-rows-with-requires-2 c κs =
+    let s = start (c .before .before .before .before .before .before) in
     let ok = s .pre .0 .0 in
-    let z = file-number _ (s .pre .0 .1) ∙ ok in (
-      through-first _ ok (sheet-opened _ ok (file-line _ (s .pre .0 .1) z) (c .before .open-sheet .ensures .0)) (file-place _ (s .pre .0 .1) z),
-      (refl, refl),
-      (fill-none _ 0 _, fill-none _ 0 _, fill-none _ 0 _),
-    )
+    let most = points-most _ ok (file-line _ (s .pre .0 .1) (file-number _ (s .pre .0 .1) ∙ ok)) in
+    (s .pre .0, (s .pre .1, (most, most)))
 
-sub-time-train : tie.Need-sub-time-train Inv-loop μ-loop
-sub-time-train c = omega (arith, c .before .before .loop .inv .0 .within)
+same-length-4 : tie.Need-same-length-4
+same-length-4 c = search needs
 
-part-time-train-start : tie.Need-part-time-train-start Inv-loop μ-loop
-part-time-train-start c = omega (arith, c .before .before .loop .inv .0 .within)
+same-length-5 : tie.Need-same-length-5
+same-length-5 c = search needs
 
-part-time-train-end : tie.Need-part-time-train-end Inv-loop μ-loop
-part-time-train-end c = search needs
+same-length-6 : tie.Need-same-length-6
+same-length-6 c = search needs
 
-slice-aggregate-time-train : tie.Need-slice-aggregate-time-train Inv-loop μ-loop
-slice-aggregate-time-train c = search needs
-
-slice-aggregate-time-train-2 : tie.Need-slice-aggregate-time-train-2 Inv-loop μ-loop
-slice-aggregate-time-train-2 c = search needs
-
-time-train-requires : tie.Need-time-train-requires Inv-loop μ-loop
-time-train-requires c κs =
-    let o = c .before .before .before in
-    let s = start o in
-    let i = o .before .before .loop .inv in
-    let ok = s .pre .0 .0 in
-    let m = points-most _ ok (line o) in
-    ((next-admitted _ ok (i .0) (more o) (line o), next-decodes _ ok (i .0) (more o) (line o)), (omega (arith, i .1 .0), omega (arith, i .1 .1)))
-
-with-hold-requires : tie.Need-with-hold-requires Inv-loop μ-loop
-with-hold-requires c κs = search needs
-
-start-of-requires : tie.Need-start-of-requires Inv-loop μ-loop
-start-of-requires c κs = search needs
-
-mul-starts : tie.Need-mul-starts Inv-loop μ-loop
-mul-starts c = omega (arith, room (in-loop c))
-
-slice-write-starts : tie.Need-slice-write-starts Inv-loop μ-loop
-slice-write-starts c = let o = in-loop c in omega (arith, more o, start o .pre .1 .0, o .before .before .loop .inv .2 .0 .long)
-
-mul-runs : tie.Need-mul-runs Inv-loop μ-loop
-mul-runs c = omega (arith, room (in-loop c))
-
-slice-write-runs : tie.Need-slice-write-runs Inv-loop μ-loop
-slice-write-runs c = let o = in-loop c in omega (arith, more o, start o .pre .1 .1, o .before .before .loop .inv .2 .1 .long)
-
-block-of-requires : tie.Need-block-of-requires Inv-loop μ-loop
-block-of-requires c κs = search needs
-
-mul-blocks : tie.Need-mul-blocks Inv-loop μ-loop
-mul-blocks c = omega (arith, room (in-loop (c .before)))
-
-slice-write-blocks : tie.Need-slice-write-blocks Inv-loop μ-loop
-slice-write-blocks c =
-    let o = in-loop (c .before) in
-    omega (arith, more o, start o .pre .1 .2, o .before .before .loop .inv .2 .2 .long)
-
-sub-record-size : tie.Need-sub-record-size Inv-loop μ-loop
-sub-record-size c = omega (arith, in-loop (c .before) .before .before .loop .inv .0 .within)
-
-part-record-size-start : tie.Need-part-record-size-start Inv-loop μ-loop
-part-record-size-start c = omega (arith, in-loop (c .before) .before .before .loop .inv .0 .within)
-
-part-record-size-end : tie.Need-part-record-size-end Inv-loop μ-loop
-part-record-size-end c = search needs
-
-record-size-requires : tie.Need-record-size-requires Inv-loop μ-loop
-record-size-requires c κs = search needs
-
-add-at : tie.Need-add-at Inv-loop μ-loop
-add-at c =
-    let o = in-loop (c .before .before .before) in
-    let s = start o in
-    let i = o .before .before .loop .inv .0 in
-    let good = s .good in
-    omega (arith, part-inside _ _ _ (i .place) (c .record-size .ensures .0) (more o), file-there _ (s .pre .0 .0))
-
-add-k : tie.Need-add-k Inv-loop μ-loop
-add-k c = omega (arith, room (in-loop (c .before .before .before)))
-
-loop-less : tie.Need-loop-less Inv-loop μ-loop
-loop-less c = omega (arith, in-loop (c .before .before .before) .if1 .taken)
-
-loop-again : tie.Need-loop-again Inv-loop μ-loop
-loop-again c =
-    let b = c .before .before in
-    let f = b .before in
-    let o = in-loop f in
-    let s = start o in
-    let ok = s .pre .0 .0 in
-    let l = o .before .before .loop in
-    let i = l .inv in
-    let timed = f .before .before .before .before .before .time-train in
-    let answer = next-answer _ ok (i .0) (more o) (line o) (timed .ensures .0 .0) (f .before .before .with-hold .ensures) in
-    let step = add-one (l .k) in (
-      through-next _ ok (i .0) (more o) (line o) (timed .ensures .0 .0) (f .before .before .with-hold .ensures) (c .record-size .ensures .0) refl,
-      (timed .ensures .1 .0 ∙ i .1 .0, timed .ensures .1 .1 ∙ i .1 .1),
-      (
-        fill-up (i .2 .0) (omega arith) step (omega (arith, more o, s .pre .1 .0)) (f .start-of .ensures ∙ ap startOf answer),
-        fill-up (i .2 .1) (omega arith) step (omega (arith, more o, s .pre .1 .1)) (next-run _ ok (i .0) (more o) (line o) (timed .ensures .0 .1)),
-        fill-up (i .2 .2) (omega arith) step (omega (arith, more o, s .pre .1 .2)) (b .block-of .ensures ∙ ap blockOf answer),
-      ),
-    )
-
-same-length : tie.Need-same-length Inv-loop μ-loop
-same-length c = c .before .before .loop .inv .2 .0 .long
-
-same-length-2 : tie.Need-same-length-2 Inv-loop μ-loop
-same-length-2 c = c .before .before .loop .inv .2 .1 .long
-
-same-length-3 : tie.Need-same-length-3 Inv-loop μ-loop
-same-length-3 c = c .before .before .loop .inv .2 .2 .long
-
-returns : tie.Need-returns Inv-loop μ-loop
-returns c =
-    let o = c .before .before in
-    let s = c .before .before .before .before .before .before .before .before .before .before in
-    let count = file-trains _ (s .pre .0 .1) (file-number _ (s .pre .0 .1) ∙ s .pre .0 .0) in
-    let all : o .loop .k ≡ trainCount (s .args .file .now) = omega (arith, count, c .if1 .left, o .loop .inv .0 .few) in (
-      column-written _ _ (o .loop .inv .2 .0) all (s .pre .1 .0),
-      column-written _ _ (o .loop .inv .2 .1) all (s .pre .1 .1),
-      column-written _ _ (o .loop .inv .2 .2) all (s .pre .1 .2),
-    )
+returns-2 : tie.Need-returns-2
+returns-2 c = search needs
 
 pub write-rows-spec : {M : Type 1} → statement M
 write-rows-spec =
     tie.close
     (tie.spec
-    Inv-loop
-    μ-loop
-    open-sheet-requires
-    loop-holds
-    sub-time-train
-    part-time-train-start
-    part-time-train-end
-    slice-aggregate-time-train
-    slice-aggregate-time-train-2
-    time-train-requires
-    with-hold-requires
-    start-of-requires
-    mul-starts
-    slice-write-starts
-    mul-runs
-    slice-write-runs
-    block-of-requires
-    mul-blocks
-    slice-write-blocks
-    sub-record-size
-    part-record-size-start
-    part-record-size-end
-    record-size-requires
-    add-at
-    add-k
-    loop-less
-    loop-again
+    slice-aggregate-write-rows-with
+    slice-aggregate-write-rows-with-2
+    write-rows-with-requires
     same-length
     same-length-2
     same-length-3
-    returns)
+    returns
+    slice-aggregate-write-rows-with-3
+    slice-aggregate-write-rows-with-4
+    write-rows-with-requires-2
+    same-length-4
+    same-length-5
+    same-length-6
+    returns-2)
