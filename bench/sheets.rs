@@ -1,5 +1,5 @@
-//! Times the whole sheet of line files, one call for a file, by the library and by the plain program, in turn, and prints a
-//! table of the processor time.
+//! Times the whole sheet of line files, one call for a file, by the library, by the plain program and by the expert's, in turn,
+//! and prints a table of the processor time.
 //!
 //!     sheets ROUNDS NAME=FILE_OR_FOLDER...
 
@@ -64,6 +64,13 @@ fn by_plain(file: &[u8], columns: &mut Columns) -> u64 {
     plain::rows(file, starts, runs, blocks).expect("accepted")
 }
 
+fn by_expert(file: &[u8], columns: &mut Columns) -> u64 {
+    let Columns { starts, runs, blocks } = columns;
+    expert::rows(file, starts, runs, blocks).expect("accepted")
+}
+
+const WAYS: [Rows; 3] = [by_library, by_plain, by_expert];
+
 /// One file, or all files of a folder.
 struct Case {
     name: String,
@@ -88,12 +95,15 @@ impl Case {
     }
 }
 
-/// Every figure of both.
+/// Every figure of all three.
 fn check_equal(case: &Case) {
     for file in &case.files {
-        let (mut ours, mut theirs) = (Columns::new(), Columns::new());
-        assert_eq!(by_library(file, &mut ours), by_plain(file, &mut theirs), "{}", case.name);
-        assert_eq!(ours, theirs, "{}", case.name);
+        let figures = WAYS.map(|rows| {
+            let mut columns = Columns::new();
+            (rows(file, &mut columns), columns)
+        });
+        assert_eq!(figures[0], figures[1], "{}", case.name);
+        assert_eq!(figures[0], figures[2], "{}", case.name);
     }
 }
 
@@ -136,50 +146,51 @@ fn least(seconds: &[f64]) -> f64 {
     seconds.iter().copied().fold(f64::INFINITY, f64::min)
 }
 
-/// Medians over the rounds, and the ratio of the least times, which other work on the machine disturbs least.
+/// Seconds for the sheets in each round, for each way.
 struct Measured {
-    library: f64,
-    plain: f64,
-    ratio: f64,
-    least_ratio: f64,
+    seconds: [Vec<f64>; 3],
 }
 
-/// Seconds for the sheets by the library and by the plain program, which begin a round in turn, and the ratio within a round.
-fn measure(case: &Case, rounds: usize) -> Measured {
-    let times = repeats(case);
-    let (mut ours, mut theirs) = (Vec::new(), Vec::new());
-    let one = |measured: &mut Vec<f64>, rows: Rows| measured.push(time_sheets(rows, case, times) / f64::from(times));
-    for round in 0..rounds {
-        if round % 2 == 0 {
-            one(&mut ours, by_library);
-            one(&mut theirs, by_plain);
-        } else {
-            one(&mut theirs, by_plain);
-            one(&mut ours, by_library);
+impl Measured {
+    /// The ways take turns, and a round begins with each of them in turn.
+    fn of(case: &Case, rounds: usize) -> Self {
+        let times = repeats(case);
+        let mut seconds = [Vec::new(), Vec::new(), Vec::new()];
+        for turn in (0..rounds).flat_map(|round| (round..round + 3).map(|turn| turn % 3)) {
+            seconds[turn].push(time_sheets(WAYS[turn], case, times) / f64::from(times));
         }
+        Measured { seconds }
     }
-    let ratios: Vec<f64> = ours.iter().zip(&theirs).map(|(library, plain)| library / plain).collect();
-    let least_ratio = least(&ours) / least(&theirs);
-    Measured { library: median(&ours), plain: median(&theirs), ratio: median(&ratios), least_ratio }
+
+    /// The median of the ratios within a round.
+    fn ratio(&self, way: usize, other: usize) -> f64 {
+        let ratios: Vec<f64> = self.seconds[way].iter().zip(&self.seconds[other]).map(|(a, b)| a / b).collect();
+        median(&ratios)
+    }
+
+    /// The ratio of the least times, which other work on the machine disturbs least.
+    fn least_ratio(&self, way: usize, other: usize) -> f64 {
+        least(&self.seconds[way]) / least(&self.seconds[other])
+    }
 }
 
 fn print_row(case: &Case, measured: &Measured) {
-    let Measured { library, plain, ratio, least_ratio } = measured;
-    let entries = case.entries() as f64;
+    let [library, plain, expert] = [0, 1, 2].map(|way| median(&measured.seconds[way]));
     println!(
-        "| {} | {} | {} | {:.1} | {:.1} | {ratio:.2} | {least_ratio:.2} | {:.1} | {:.1} |",
-        case.name, case.files.len(), case.entries(), library * 1e6, plain * 1e6, library * 1e9 / entries, plain * 1e9 / entries
+        "| {} | {} | {} | {:.2} | {:.2} | {:.2} | {:.2} | {:.2} | {:.2} | {:.1} |",
+        case.name, case.files.len(), case.entries(), library * 1e6, plain * 1e6, expert * 1e6, measured.ratio(0, 1),
+        measured.least_ratio(0, 1), measured.ratio(2, 0), library * 1e9 / case.entries() as f64
     );
 }
 
 fn main() {
     let arguments: Vec<String> = std::env::args().skip(1).collect();
     let rounds = arguments[0].parse().expect("a number of rounds");
-    println!("| | Files | Points times trains | Library, µs | Plain Rust, µs | Ratio | Ratio of the least | Library, ns for a point and train | Plain Rust, ns |");
-    println!("|---|---|---|---|---|---|---|---|---|");
+    println!("| | Files | Points times trains | Library, µs | Plain, µs | Expert, µs | Library / plain | Of the least | Expert / library | Library, ns |");
+    println!("|---|---|---|---|---|---|---|---|---|---|");
     for argument in &arguments[1..] {
         let case = Case::read(argument);
         check_equal(&case);
-        print_row(&case, &measure(&case, rounds));
+        print_row(&case, &Measured::of(&case, rounds));
     }
 }
