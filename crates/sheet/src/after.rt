@@ -1,12 +1,10 @@
-// The sheet after an addition.
-use crate::Sheet;
-use holds::HoldRecord;
+// The free times after an addition.
 ghost use mathlib.Core.Path.{_≡_};
-ghost use Prim.Native.Nat.{_+_, _*_, _^_, _≤_};
-ghost use Rattle.rules.specs.Sheet.{sheetAfter};
-ghost use Rattle.rules.specs.Admitted.{Rule12, Rule14};
-ghost use Rattle.holds.specs.Values.{asHold};
-ghost use Rattle.sheet.specs.Values.{asSheet};
+ghost use mathlib.Core.List.{[]};
+ghost use Prim.Native.Nat.{ℕ, _+_, _*_, _^_, _≤_, _<_};
+ghost use Rattle.rules.specs.Count.{entry};
+ghost use Rattle.rules.specs.Sheet.{released};
+ghost use Rattle.sheet.specs.Values.{holdFrom};
 
 // When a block is free again after a train with this start.
 fn free_again(start: u64, end: u64) -> u64
@@ -16,20 +14,15 @@ fn free_again(start: u64, end: u64) -> u64
     start + end
 }
 
-pub(crate) fn sheet_after(sheet: Sheet, hold: HoldRecord, start: u64) -> Sheet
-    requires { ⌜ Rule12 (asSheet sheet) ⌝ }
-    requires { ⌜ Rule14 (sheet .blocks) (asHold hold) ⌝ }
-    requires { ⌜ start ≤ sheet .trains * 2 ^ 44 ⌝ }
-    ensures { λ r. ⌜ asSheet r ≡ sheetAfter (asSheet sheet) (asHold hold) start ⌝ }
+// The free times of the first blocks become start plus end.
+pub(crate) fn release<'a>(blocks: usize, free: &'a mut [u64; 32], ends: &'a [u64; 32], start: u64)
+    requires { ⌜ (blocks ≤ 32) × (start ≤ 64 * 2 ^ 44) ⌝ }
+    requires { ⌜ ((b : ℕ) → b < blocks → entry (now ends) b ≤ 2 ^ 44) ⌝ }
+    ensures { λ _. ⌜ now (free .exit) ≡ released blocks (holdFrom 0 [] (now (ends .entry))) start (now (free .entry)) ⌝ }
 {
-    let blocks = sheet.blocks as usize;
-    let trains = sheet.trains;
-    let mut next = sheet;
-    next.trains = trains + 1;
     let mut b = 0;
     while b < blocks {
-        next.free[b] = free_again(start, hold.ends[b]);
+        free[b] = free_again(start, ends[b]);
         b += 1;
     }
-    next
 }

@@ -1,13 +1,10 @@
 // The block named for a start.
-use crate::Sheet;
-use holds::HoldRecord;
 ghost use mathlib.Core.Path.{_≡_};
-ghost use Prim.Native.Nat.{_+_};
+ghost use mathlib.Core.List.{[]};
+ghost use Prim.Native.Nat.{_+_, _≤_};
 ghost use lib.Dec.{eqb};
 ghost use Rattle.rules.specs.Sheet.{blockNamed};
-ghost use Rattle.rules.specs.Admitted.{Rule12};
-ghost use Rattle.holds.specs.Values.{asHold};
-ghost use Rattle.sheet.specs.Values.{asSheet};
+ghost use Rattle.sheet.specs.Values.{sheetFrom, holdFrom};
 
 // Start plus beginning equals the free time. No sum is formed, since it may not fit.
 fn binds(start: u64, begin: u64, free: u64) -> bool
@@ -22,17 +19,21 @@ fn binds(start: u64, begin: u64, free: u64) -> bool
     false
 }
 
-pub(crate) fn block_named(sheet: Sheet, hold: HoldRecord, start: u64) -> u64
-    requires { ⌜ Rule12 (asSheet sheet) ⌝ }
-    ensures { λ r. ⌜ r ≡ blockNamed (asSheet sheet) (asHold hold) start ⌝ }
+pub(crate) fn block_named<'a>(
+    blocks: usize,
+    free: &'a [u64; 32],
+    begins: &'a [u64; 32],
+    start: u64,
+) -> u64
+    requires { ⌜ blocks ≤ 32 ⌝ }
+    ensures { λ r. ⌜ r ≡ blockNamed (sheetFrom blocks 0 (now (free .entry))) (holdFrom 0 (now (begins .entry)) []) start ⌝ }
 {
-    let blocks = sheet.blocks as usize;
     if start == 0 {
         return 0;
     }
     let mut b = 0;
     while b < blocks {
-        if binds(start, hold.begins[b], sheet.free[b]) {
+        if binds(start, begins[b], free[b]) {
             return b as u64 + 1;
         }
         b += 1;

@@ -4,7 +4,7 @@ mod block;
 mod refusal;
 mod start;
 
-use after::sheet_after;
+use after::release;
 use block::block_named;
 use holds::HoldRecord;
 use refusal::adding_refusal;
@@ -81,16 +81,27 @@ fn fresh(blocks: u64) -> Sheet
 pub fn with_hold(sheet: Sheet, hold: HoldRecord) -> Addition
     ensures { λ r. ⌜ asAddition r ≡ rules.added (asSheet sheet) (asHold hold) ⌝ }
 {
-    let number = adding_refusal(sheet, hold);
+    // The free times are lent and altered here, so the sheet is copied once.
+    let mut next = sheet;
+    let number = adding_refusal(
+        next.blocks,
+        next.trains,
+        &next.free,
+        hold.blocks,
+        &hold.begins,
+        &hold.ends,
+    );
     if number != 0 {
         return Addition {
             answer: Answer::Refused(number),
             sheet,
         };
     }
-    let start = least_start(sheet, hold);
-    let block = block_named(sheet, hold, start);
-    let next = sheet_after(sheet, hold, start);
+    let blocks = next.blocks as usize;
+    let start = least_start(blocks, &next.free, &hold.begins);
+    let block = block_named(blocks, &next.free, &hold.begins, start);
+    next.trains += 1;
+    release(blocks, &mut next.free, &hold.ends, start);
     Addition {
         answer: Answer::Accepted { start, block },
         sheet: next,

@@ -1,15 +1,12 @@
 // Rules 12 to 14: tests that pass where a rule is kept, and the number of refusal.
 use crate::Answer;
-use crate::Sheet;
-use holds::HoldRecord;
 ghost use mathlib.Core.Path.{_≡_};
 ghost use Prim.Native.Nat.{_≤_};
 ghost use lib.Dec.{leb, ltb};
 ghost use Rattle.rules.specs.Count.{entry, orZero, every};
 ghost use Rattle.rules.specs.Demand.{refusalOf};
 ghost use Rattle.rules.specs.Refusal.{refusal, countRule, sheetRule, holdRule, addingRules};
-ghost use Rattle.holds.specs.Values.{asHold};
-ghost use Rattle.sheet.specs.Values.{asSheet, asAnswer};
+ghost use Rattle.sheet.specs.Values.{sheetFrom, holdFrom, asAnswer};
 
 const MOST_BLOCKS: u64 = 32;
 
@@ -19,9 +16,9 @@ const MOST_TRAINS: u64 = 64;
 const LATEST_END: u64 = 17592186044416;
 
 // The first n times are at most the bound.
-fn all_at_most(n: usize, times: [u64; 32], bound: u64) -> bool
+fn all_at_most(n: usize, times: &[u64; 32], bound: u64) -> bool
     requires { ⌜ n ≤ 32 ⌝ }
-    ensures { λ r. ⌜ r ≡ every n (λ b. leb (entry times b) bound) ⌝ }
+    ensures { λ r. ⌜ r ≡ every n (λ b. leb (entry (now (times .entry)) b) bound) ⌝ }
 {
     let mut b = 0;
     while b < n {
@@ -34,9 +31,9 @@ fn all_at_most(n: usize, times: [u64; 32], bound: u64) -> bool
 }
 
 // The first n beginnings are below their ends.
-fn all_ordered(n: usize, begins: [u64; 32], ends: [u64; 32]) -> bool
+fn all_ordered<'a>(n: usize, begins: &'a [u64; 32], ends: &'a [u64; 32]) -> bool
     requires { ⌜ n ≤ 32 ⌝ }
-    ensures { λ r. ⌜ r ≡ every n (λ b. ltb (entry begins b) (entry ends b)) ⌝ }
+    ensures { λ r. ⌜ r ≡ every n (λ b. ltb (entry (now (begins .entry)) b) (entry (now (ends .entry)) b)) ⌝ }
 {
     let mut b = 0;
     while b < n {
@@ -62,29 +59,23 @@ pub(crate) fn count_kept(blocks: u64) -> bool
 }
 
 // Rule 12 of a sheet.
-fn sheet_kept(sheet: Sheet) -> bool
-    ensures { λ r. ⌜ r ≡ sheetRule (asSheet sheet) ⌝ }
+fn sheet_kept(blocks: u64, trains: u64, free: &[u64; 32]) -> bool
+    ensures { λ r. ⌜ r ≡ sheetRule (sheetFrom blocks trains (now (free .entry))) ⌝ }
 {
-    let blocks = sheet.blocks;
-    let trains = sheet.trains;
     if !count_kept(blocks) {
         return false;
     }
     if MOST_TRAINS < trains {
         return false;
     }
-    let free = sheet.free;
     all_at_most(blocks as usize, free, trains * LATEST_END)
 }
 
-// Rule 14, by the sheet's block count.
-fn hold_kept(blocks: u64, hold: HoldRecord) -> bool
+// Rule 14 of a hold record of `count` blocks, by the sheet's block count.
+fn hold_kept<'a>(blocks: u64, count: u64, begins: &'a [u64; 32], ends: &'a [u64; 32]) -> bool
     requires { ⌜ blocks ≤ 32 ⌝ }
-    ensures { λ r. ⌜ r ≡ holdRule blocks (asHold hold) ⌝ }
+    ensures { λ r. ⌜ r ≡ holdRule blocks (holdFrom count (now (begins .entry)) (now (ends .entry))) ⌝ }
 {
-    let count = hold.blocks;
-    let begins = hold.begins;
-    let ends = hold.ends;
     if count != blocks {
         return false;
     }
@@ -94,19 +85,24 @@ fn hold_kept(blocks: u64, hold: HoldRecord) -> bool
     all_at_most(blocks as usize, ends, LATEST_END)
 }
 
-// The first broken rule of 12 to 14, or 0.
-pub(crate) fn adding_refusal(sheet: Sheet, hold: HoldRecord) -> u64
-    ensures { λ r. ⌜ r ≡ refusal (addingRules (asSheet sheet) (asHold hold)) ⌝ }
+// The first broken rule of 12 to 14, or 0, for a sheet and a hold record of `count` blocks.
+pub(crate) fn adding_refusal<'a>(
+    blocks: u64,
+    trains: u64,
+    free: &'a [u64; 32],
+    count: u64,
+    begins: &'a [u64; 32],
+    ends: &'a [u64; 32],
+) -> u64
+    ensures { λ r. ⌜ r ≡ refusal (addingRules (sheetFrom blocks trains (now (free .entry))) (holdFrom count (now (begins .entry)) (now (ends .entry)))) ⌝ }
 {
-    let blocks = sheet.blocks;
-    let trains = sheet.trains;
-    if !sheet_kept(sheet) {
+    if !sheet_kept(blocks, trains, free) {
         return 12;
     }
     if trains == MOST_TRAINS {
         return 13;
     }
-    if !hold_kept(blocks, hold) {
+    if !hold_kept(blocks, count, begins, ends) {
         return 14;
     }
     0

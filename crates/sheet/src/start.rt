@@ -1,12 +1,9 @@
 // The least start.
-use crate::Sheet;
-use holds::HoldRecord;
 ghost use mathlib.Core.Path.{_≡_};
-ghost use Prim.Native.Nat.{_-_, max};
+ghost use mathlib.Core.List.{[]};
+ghost use Prim.Native.Nat.{_-_, _≤_, max};
 ghost use Rattle.rules.specs.Sheet.{leastStart};
-ghost use Rattle.rules.specs.Admitted.{Rule12};
-ghost use Rattle.holds.specs.Values.{asHold};
-ghost use Rattle.sheet.specs.Values.{asSheet};
+ghost use Rattle.sheet.specs.Values.{sheetFrom, holdFrom};
 
 // The least start for one block.
 fn wait(free: u64, begin: u64) -> u64
@@ -21,15 +18,14 @@ fn greater(a: u64, b: u64) -> u64
     if a < b { b } else { a }
 }
 
-pub(crate) fn least_start(sheet: Sheet, hold: HoldRecord) -> u64
-    requires { ⌜ Rule12 (asSheet sheet) ⌝ }
-    ensures { λ r. ⌜ r ≡ leastStart (asSheet sheet) (asHold hold) ⌝ }
+pub(crate) fn least_start<'a>(blocks: usize, free: &'a [u64; 32], begins: &'a [u64; 32]) -> u64
+    requires { ⌜ blocks ≤ 32 ⌝ }
+    ensures { λ r. ⌜ r ≡ leastStart (sheetFrom blocks 0 (now (free .entry))) (holdFrom 0 (now (begins .entry)) []) ⌝ }
 {
-    let blocks = sheet.blocks as usize;
     let mut start = 0;
     let mut b = 0;
     while b < blocks {
-        start = greater(start, wait(sheet.free[b], hold.begins[b]));
+        start = greater(start, wait(free[b], begins[b]));
         b += 1;
     }
     start

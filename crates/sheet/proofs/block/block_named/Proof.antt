@@ -1,6 +1,7 @@
 -- `block_named`: at the loop's test none of the first b blocks binds. Assumes nothing.
 use Prim.Native.Nat.{ℕ, _≤_, _-_, _+_}
 use mathlib.Core.Bool.{Bool}
+use mathlib.Core.List.{[]}
 use mathlib.Core.Path.{_≡_, sym, _∙_}
 use native.Mathlib.Numerals.{add-one}
 use native.Mathlib.Omega.{arith}
@@ -11,8 +12,7 @@ use borrow.Author.Tests.{eq-eqb, ne-eqb}
 use Rattle.rules.specs.Hold.{Hold}
 use Rattle.rules.specs.Sheet.{Sheet, begin, freeTime, blockNamed}
 use Rattle.rules.proofs.Count.{NonePasses, FirstPasses, first-none, first-found}
-use Rattle.holds.specs.Values.{asHold}
-use Rattle.sheet.specs.Values.{asSheet}
+use Rattle.sheet.specs.Values.{sheetFrom, holdFrom}
 use Rattle.sheet.proofs.Loops.{none-done}
 use Rattle.sheet.proofs.block.block_named.Statement.{statement}
 use Rattle.sheet.proofs.block.block_named.Tie as tie
@@ -35,10 +35,10 @@ module _ (s : Sheet) (h : Hold) (start : ℕ) where
   none-named not0 f = rw (ne-eqb start 0 not0, first-none (s .blocks) binding f)
 
 abbrev Inv-loop : tie.InvT-loop
-Inv-loop start sheet hold blocks b₀ b = (b ≤ blocks) × NonePasses b (binding (asSheet sheet) (asHold hold) start)
+Inv-loop blocks free begins start b₀ b = (b ≤ blocks) × NonePasses b (binding (sheetFrom blocks 0 free) (holdFrom 0 begins []) start)
 
 abbrev μ-loop : tie.MeasureT-loop
-μ-loop start sheet hold blocks b₀ b = blocks - b
+μ-loop blocks free begins start b₀ b = blocks - b
 
 returns : tie.Need-returns Inv-loop μ-loop
 returns c = at-zero _ _ _ (c .if1 .taken)

@@ -1,5 +1,5 @@
 -- `adding_refusal`: the rules in checking order. Assumes nothing.
-use mathlib.Core.Bool.{true, false, not}
+use mathlib.Core.Bool.{Bool, true, false, not}
 use mathlib.Core.List.{[], _∷_}
 use mathlib.Core.Path.{_≡_, sym, ap, _∙_}
 use borrow.Author.Needs.{needs}
@@ -13,35 +13,35 @@ use Rattle.sheet.proofs.Tests.{passed, failed}
 use Rattle.sheet.proofs.refusal.adding_refusal.Statement.{statement}
 use Rattle.sheet.proofs.refusal.adding_refusal.Tie as tie
 
--- the number of the first broken rule, and 0 past all three
-module _ (s : Sheet) (h : Hold) where
-  breaks-12 : sheetRule s ≡ false → 12 ≡ refusal (addingRules s h)
-  breaks-12 e = sym (head-broken 12 _ _ e)
+-- the number of the first broken rule, and 0 past all three; r and q are what the code holds of rules 12 and 14
+module _ (s : Sheet) (h : Hold) {r : Bool} (e : r ≡ sheetRule s) where
+  breaks-12 : not r ≡ true → 12 ≡ refusal (addingRules s h)
+  breaks-12 n = sym (head-broken 12 _ _ (failed e n))
 
-  module _ (e : sheetRule s ≡ true) where
+  module _ (k : not r ≡ false) where
     breaks-13 : s .trains ≡ 64 → 13 ≡ refusal (addingRules s h)
-    breaks-13 f = sym (head-kept 12 _ _ e ∙ head-broken 13 _ _ (ap not (eq-eqb (s .trains) 64 f)))
+    breaks-13 f = sym (head-kept 12 _ _ (passed e k) ∙ head-broken 13 _ _ (ap not (eq-eqb (s .trains) 64 f)))
 
-    module _ (f : s .trains ≡ 64 → ⊥) where
+    module _ (f : s .trains ≡ 64 → ⊥) {q : Bool} (g : q ≡ holdRule (s .blocks) h) where
       from-14 : refusal (addingRules s h) ≡ refusal (rule 14 (holdRule (s .blocks) h) ∷ [])
-      from-14 = head-kept 12 _ _ e ∙ head-kept 13 _ _ (ap not (ne-eqb (s .trains) 64 f))
+      from-14 = head-kept 12 _ _ (passed e k) ∙ head-kept 13 _ _ (ap not (ne-eqb (s .trains) 64 f))
 
-      breaks-14 : holdRule (s .blocks) h ≡ false → 14 ≡ refusal (addingRules s h)
-      breaks-14 g = sym (from-14 ∙ head-broken 14 _ _ g)
+      breaks-14 : not q ≡ true → 14 ≡ refusal (addingRules s h)
+      breaks-14 n = sym (from-14 ∙ head-broken 14 _ _ (failed g n))
 
-      breaks-none : holdRule (s .blocks) h ≡ true → 0 ≡ refusal (addingRules s h)
-      breaks-none g = sym (from-14 ∙ head-kept 14 _ _ g ∙ refusal-none)
+      breaks-none : not q ≡ false → 0 ≡ refusal (addingRules s h)
+      breaks-none n = sym (from-14 ∙ head-kept 14 _ _ (passed g n) ∙ refusal-none)
 
 sheet-kept-requires : tie.Need-sheet-kept-requires
 sheet-kept-requires c κs = search needs
 
 returns : tie.Need-returns
-returns c = breaks-12 _ _ (failed (c .before .sheet-kept .ensures) (c .if1 .taken))
+returns c = breaks-12 _ _ (c .before .sheet-kept .ensures) (c .if1 .taken)
 
 returns-2 : tie.Need-returns-2
 returns-2 c =
     let s = c .before in
-    breaks-13 _ _ (passed (s .before .sheet-kept .ensures) (s .if1 .left)) (c .if2 .taken)
+    breaks-13 _ _ (s .before .sheet-kept .ensures) (s .if1 .left) (c .if2 .taken)
 
 hold-kept-requires : tie.Need-hold-kept-requires
 hold-kept-requires c κs =
@@ -52,13 +52,13 @@ returns-3 : tie.Need-returns-3
 returns-3 c =
     let room = c .before .before in
     let s = room .before in
-    breaks-14 _ _ (passed (s .before .sheet-kept .ensures) (s .if1 .left)) (room .if2 .left) (failed (c .before .hold-kept .ensures) (c .if3 .taken))
+    breaks-14 _ _ (s .before .sheet-kept .ensures) (s .if1 .left) (room .if2 .left) (c .before .hold-kept .ensures) (c .if3 .taken)
 
 returns-4 : tie.Need-returns-4
 returns-4 c =
     let room = c .before .before in
     let s = room .before in
-    breaks-none _ _ (passed (s .before .sheet-kept .ensures) (s .if1 .left)) (room .if2 .left) (passed (c .before .hold-kept .ensures) (c .if3 .left))
+    breaks-none _ _ (s .before .sheet-kept .ensures) (s .if1 .left) (room .if2 .left) (c .before .hold-kept .ensures) (c .if3 .left)
 
 pub adding-refusal-spec : {M : Type 1} → statement M
 adding-refusal-spec =

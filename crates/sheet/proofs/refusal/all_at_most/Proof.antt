@@ -12,10 +12,10 @@ use Rattle.sheet.proofs.refusal.all_at_most.Statement.{statement}
 use Rattle.sheet.proofs.refusal.all_at_most.Tie as tie
 
 abbrev Inv-loop : tie.InvT-loop
-Inv-loop n bound times b₀ b = (b ≤ n) × (every b (λ k. leb (entry times k) bound) ≡ true)
+Inv-loop n times bound b₀ b = (b ≤ n) × (every b (λ k. leb (entry times k) bound) ≡ true)
 
 abbrev μ-loop : tie.MeasureT-loop
-μ-loop n bound times b₀ b = n - b
+μ-loop n times bound b₀ b = n - b
 
 loop-holds : tie.Need-loop-holds Inv-loop μ-loop
 loop-holds c = (search needs, every-none _)
@@ -23,8 +23,8 @@ loop-holds c = (search needs, every-none _)
 mul-if1 : tie.Need-mul-if1 Inv-loop μ-loop
 mul-if1 c = search needs
 
-array-read-if1 : tie.Need-array-read-if1 Inv-loop μ-loop
-array-read-if1 c = search needs
+element-copy-out-if1 : tie.Need-element-copy-out-if1 Inv-loop μ-loop
+element-copy-out-if1 c = search needs
 
 returns : tie.Need-returns Inv-loop μ-loop
 returns c = sym (every-broken _ _ _ (search needs) (lt-leb _ _ (c .if1 .taken)))
@@ -36,7 +36,9 @@ loop-less : tie.Need-loop-less Inv-loop μ-loop
 loop-less c = search needs
 
 loop-again : tie.Need-loop-again Inv-loop μ-loop
-loop-again c = (search needs, every-more _ _ (c .before .before .loop .inv .1) (le-leb _ _ (c .if1 .left)))
+loop-again c =
+    let turn = c .before .before in
+    (search needs, every-more _ _ (turn .before .loop .inv .1) (le-leb _ _ (c .if1 .left)))
 
 returns-2 : tie.Need-returns-2 Inv-loop μ-loop
 returns-2 c =
@@ -51,7 +53,7 @@ all-at-most-spec =
     μ-loop
     loop-holds
     mul-if1
-    array-read-if1
+    element-copy-out-if1
     returns
     add-b
     loop-less

@@ -43,12 +43,12 @@ mul-all-at-most c = search needs
 
 all-at-most-requires : tie.Need-all-at-most-requires
 all-at-most-requires c κs =
-    let s = c .before .before in
+    let s = c .before in
     within-means 1 32 _ (passed (s .before .count-kept .ensures) (s .if1 .left)) .1
 
 returns-3 : tie.Need-returns-3
 returns-3 c =
-    let few = c .before .before in
+    let few = c .before in
     let s = few .before in
     by-free _ (passed (s .before .count-kept .ensures) (s .if1 .left)) (few .if2 .left) (c .all-at-most .ensures)
 

@@ -11,10 +11,10 @@ use Rattle.sheet.proofs.start.least_start.Statement.{statement}
 use Rattle.sheet.proofs.start.least_start.Tie as tie
 
 abbrev Inv-loop : tie.InvT-loop
-Inv-loop sheet hold blocks start₀ b₀ start b = (b ≤ blocks) × (start ≡ greatestBelow b (λ k. entry (sheet .free) k - entry (hold .begins) k))
+Inv-loop blocks free begins start₀ b₀ start b = (b ≤ blocks) × (start ≡ greatestBelow b (λ k. entry free k - entry begins k))
 
 abbrev μ-loop : tie.MeasureT-loop
-μ-loop sheet hold blocks start₀ b₀ start b = blocks - b
+μ-loop blocks free begins start₀ b₀ start b = blocks - b
 
 loop-holds : tie.Need-loop-holds Inv-loop μ-loop
 loop-holds c = (search needs, greatest-none _)
