@@ -7,7 +7,7 @@ use mathlib.Core.Path.{_≡_, refl, sym, ap, ap₂, _∙_}
 use native.Mathlib.Omega.{arith}
 use lib.ListN.{length, drop}
 use Rattle.rules.specs.Calls.{fileRefusal}
-use Rattle.rules.specs.Count.{_and_, every}
+use Rattle.rules.specs.Count.{_and_}
 use Rattle.rules.specs.File.{limitCount, blockCount, trainCount, bandCount, stopCount, recordAt}
 use Rattle.rules.specs.Line.{Line, Train, lineOf, trainAt, trainOf}
 use Rattle.rules.specs.Refusal.{rule, refusal, lengthRules, lineSizes, trainSizes, sizesRule, sizesOn, lineRules, oneTrainRules, everyTrainRules}

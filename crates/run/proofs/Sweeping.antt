@@ -9,7 +9,7 @@ use Rattle.rules.specs.Line.{Line, Train}
 use Rattle.rules.specs.Run.{squared, lastTop, listed, capOf, cap, tractionStep, forwardSweep, forward, trainCells}
 use Rattle.rules.specs.Admitted.{Admitted}
 use Rattle.rules.specs.Count.{entry, lowestFrom}
-use Rattle.rules.proofs.Count.{length-row, entry-row, lowest-le}
+use Rattle.rules.proofs.Count.{length-row, entry-row}
 use Rattle.rules.proofs.Step.{step-mono, step-keeps, squared-most, last-top-most}
 use Rattle.rules.proofs.Cap.{cap-top}
 use Rattle.values.specs.declared.decoded.Line as decodedLine

@@ -35,7 +35,8 @@ unfolding dwellHere
 returns-3 c =
     let later = c .before .before .before in
     let a = later .before .before .before .args in
-    rw (eq-eqb _ _ (later .before .if1 .left), ne-eqb _ _ (later .if2 .left), used-at (a .dwells .now) 64 {s = a .stop .number} (omega arith), c .wide64 .ensures .0)
+    let beside = used-at (a .dwells .now) 64 {s = a .stop .number} (omega arith) in
+    rw (eq-eqb _ _ (later .before .if1 .left), ne-eqb _ _ (later .if2 .left), beside, c .wide64 .ensures .0)
 
 returns-4 : tie.Need-returns-4
 unfolding dwellHere

@@ -1,8 +1,6 @@
 use Prim.Native.Nat.{_<_, min}
-use mathlib.Core.Path.{_≡_, sym, ap, _∙_}
 use native.Mathlib.Omega.{arith}
 use Rattle.rules.proofs.Count.{length-row}
-use Rattle.stops.specs.declared.Stop.{Stop}
 use Rattle.stops.specs.Stops.{used}
 use Rattle.stops.proofs.Passing.{point-there, point-none, used-there, used-at}
 use borrow.Author.Needs.{needs}

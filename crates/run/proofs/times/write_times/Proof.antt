@@ -92,7 +92,8 @@ loop-holds : tie.Need-loop-holds Inv-loop μ-loop
 loop-holds c =
     let first = c .before .before in
     let a = first .before .before .before .before .before .before .before in (
-      arrived-first _ _ (a .pre .0) (behind-first (a .args .train .stops) (few a) (first .first-stop .ensures)) (c .root .ensures .0) (a .pre .1 .1 0 (omega (arith, a .pre .0 .rule3Line .points-least))) (c .root .ensures .1),
+      arrived-first _ _ (a .pre .0) (behind-first (a .args .train .stops) (few a) (first .first-stop .ensures)) (c .root .ensures .0)
+          (a .pre .1 .1 0 (omega (arith, a .pre .0 .rule3Line .points-least))) (c .root .ensures .1),
       met-none,
       λ h. absurd (omega arith),
     )
@@ -163,8 +164,8 @@ clock c =
     let r = rooted (c .before) in
     let d = dwelled r in
     let o = in-loop d in
-    clock-most _ _ (start o .pre .0) (o .before .loop .inv .0) (ahead o) (r .root-after .ensures .0 .0) (speed-ahead o) (dwelt d) (c .before .wide64 .ensures .0)
-    (c .cell-after .ensures .0)
+    clock-most _ _ (start o .pre .0) (o .before .loop .inv .0) (ahead o) (r .root-after .ensures .0 .0) (speed-ahead o) (dwelt d)
+    (c .before .wide64 .ensures .0) (c .cell-after .ensures .0)
 
 add-time : tie.Need-add-time Inv-loop μ-loop
 add-time c = omega (arith, clock c)

@@ -17,12 +17,14 @@ start c = c .before .before .before .before .before
 head-below : (c : tie.After-next-begun2) → c .before .before .next-begun .result < start c .args .count
 head-below c =
     let s = start c in
-    omega (arith, next-below (s .args .points .now) (s .args .count) (s .args .covered .head) (s .args .i) (s .pre .0 .0), c .before .before .next-begun .ensures)
+    let a = s .args in
+    omega (arith, next-below (a .points .now) (a .count) (a .covered .head) (a .i) (s .pre .0 .0), c .before .before .next-begun .ensures)
 
 tail-below : (c : tie.After-next-begun2) → c .next-begun2 .result < start c .args .count
 tail-below c =
     let s = start c in
-    omega (arith, next-below (s .args .points .now) (s .args .count) (s .args .covered .tail) (c .before .less .result) (s .pre .0 .1), c .next-begun2 .ensures)
+    let a = s .args in
+    omega (arith, next-below (a .points .now) (a .count) (a .covered .tail) (c .before .less .result) (s .pre .0 .1), c .next-begun2 .ensures)
 
 returns : tie.Need-returns
 returns c =
