@@ -1,7 +1,5 @@
 pub mod Compose
 pub mod Traction
-pub mod Lowest
-pub mod Limits
 pub mod Sweeping
 pub mod Digits
 pub mod RootsMet

@@ -4,9 +4,8 @@ use crate::bands::traction_step;
 use crate::numbers::lesser;
 use crate::numbers::squared_of;
 use crate::sweep::last_top;
-use crate::walk::Covered;
-use crate::walk::covered_at;
-use crate::walk::lowest_limit;
+use caps::covered_at;
+use caps::first_covered;
 use stops::first_stop;
 use stops::stop_ahead;
 use values::Line;
@@ -20,18 +19,19 @@ ghost use Prim.Native.Nat.{_+_, _-_, _≤_, min};
 ghost use lib.ListN.{length, drop};
 ghost use Rattle.rules.specs.Admitted.{Admitted};
 ghost use Rattle.rules.specs.Count.{entry, greatestBelow, row};
-ghost use Rattle.rules.specs.Run.{forward};
+ghost use Rattle.rules.specs.Run.{squared, forward};
 ghost use Rattle.values.specs.Values.{asLine, asTrain};
 ghost use Rattle.run.specs.Traction.{Falls, BandBounds};
 
-// The cap is 0 at a stop.
-fn cap_of(stopped: bool, cap: SquaredSpeed) -> SquaredSpeed
-    ensures { λ r. ⌜ r .0 ≡ cond stopped 0 (cap .0) ⌝ }
+// The cap of a speed in km/h: 0 at a stop.
+fn cap_of(stopped: bool, v: u32) -> SquaredSpeed
+    requires { ⌜ v ≤ 300 ⌝ }
+    ensures { λ r. ⌜ r .0 ≡ cond stopped 0 (squared v) ⌝ }
 {
     if stopped {
         return SquaredSpeed(0);
     }
-    cap
+    squared_of(v)
 }
 
 // The lesser of the cap and the traction step from w. A cap at most w and the square of the last top is at most the step.
@@ -68,20 +68,14 @@ pub(crate) fn write_forward(line: Line, train: Train, speeds: &mut [u32])
     let bands = bands_of(line, train);
     let gains = bands.gains;
     let squares = bands.squares;
-    let lowest = lowest_limit(&limits, top, 0, 0);
-    let mut covered = Covered {
-        head: 0,
-        tail: 0,
-        cap: squared_of(lowest),
-        until: 0,
-    };
+    let mut covered = first_covered(&limit_points, &limits, line.limit_count, top, n);
     let mut stop = first_stop(&stop_points, train.stop_count);
     // The step from the greatest squared speed is at least any cap, so point 0 gets its cap.
     let mut w = SquaredSpeed(900000000);
     let mut i = 0;
     while i < points {
         stop = stop_ahead(&stop_points, train.stop_count, stop, i);
-        let cap = cap_of(stop.point == i, covered.cap);
+        let cap = cap_of(stop.point == i, covered.lowest);
         w = capped_step(bands.count, &gains, &squares, bands.falling, w, cap);
         speeds[i] = w.0;
         i += 1;

@@ -5,7 +5,6 @@ mod numbers;
 mod root;
 mod sweep;
 mod times;
-mod walk;
 
 use forward::write_forward;
 use numbers::narrow;

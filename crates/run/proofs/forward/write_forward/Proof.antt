@@ -1,39 +1,35 @@
 use Prim.Native.Nat.{_-_, _≤_, _<_}
-use mathlib.Core.Path.{_≡_, ap, _∙_}
+use mathlib.Core.Path.{_≡_}
 use native.Mathlib.Numerals.{add-one}
 use native.Mathlib.Omega.{arith}
 use lib.Dec.{eqb}
 use Rattle.rules.specs.Count.{entry}
-use Rattle.rules.specs.Run.{squared, trainCells, lastTop, listed, cap, forward}
-use Rattle.rules.proofs.Count.{lowest-le}
+use Rattle.rules.specs.Run.{lastTop, listed, cap, forward}
+use Rattle.rules.proofs.Count.{length-row}
 use Rattle.rules.proofs.Cap.{cap-top, cap-most}
-use Rattle.rules.proofs.Step.{last-top-most}
 use Rattle.rules.proofs.Fill.{Filled, fill-none, fill-up, fill-done}
 use Rattle.values.specs.Values.{asLine, asTrain}
 use Rattle.stops.specs.Stops.{Behind, NextStop}
 use Rattle.stops.proofs.Passing.{behind-first, next-here, here-listed, behind-on}
+use Rattle.caps.proofs.Covering.{Covering, covering-first, covering-next, covering-lowest, covering-most}
 use Rattle.run.specs.Traction.{IsBands}
-use Rattle.run.specs.Walk.{StaysUntil}
-use Rattle.run.proofs.Limits.{IsCovered, stays-none, cells-most}
 use Rattle.run.proofs.Traction.{count-least, count-most, bands-bounded, traction-is, last-most}
-use Rattle.run.proofs.Sweeping.{Before, before-start, before-next, forward-at, cap-at, counts, points-positive, covered-ready, covered-begun}
-use Rattle.run.proofs.Sweeping.{covered-on}
+use Rattle.run.proofs.Sweeping.{Before, before-start, before-next, forward-at, cap-at}
 use borrow.Author.Needs.{needs}
 use Rattle.run.proofs.forward.write_forward.Statement.{statement}
 use Rattle.run.proofs.forward.write_forward.Tie as tie
 
 abbrev Inv-loop : tie.InvT-loop
-Inv-loop line train speeds₀ points limit-points limits stop-points n top bands gains squares lowest covered₀ stop₀ w₀ i₀ speeds covered stop w i =
+Inv-loop line train speeds₀ points limit-points limits stop-points n top bands gains squares covered₀ stop₀ w₀ i₀ speeds covered stop w i =
     (i ≤ points)
-    × IsCovered (asLine line) (trainCells (asLine line) (asTrain train)) (lastTop (asTrain train)) i (covered .head) (covered .tail) (covered .cap .0)
+    × Covering line train i covered
     × Behind (asTrain train .stops) stop i
     × Before (asLine line) (asTrain train) i (w .0)
     × (w .0 ≤ 900000000)
     × Filled (forward (asLine line) (asTrain train)) 0 i speeds₀ speeds
-    × StaysUntil limit-points (line .«limit_count») n (covered .head) (covered .tail) (covered .until)
 
 abbrev μ-loop : tie.MeasureT-loop
-μ-loop line train speeds₀ points limit-points limits stop-points n top bands gains squares lowest covered₀ stop₀ w₀ i₀ speeds covered stop w i =
+μ-loop line train speeds₀ points limit-points limits stop-points n top bands gains squares covered₀ stop₀ w₀ i₀ speeds covered stop w i =
     points - i
 
 abbrev in-loop : tie.After-cap-of Inv-loop μ-loop → tie.In-loop Inv-loop μ-loop
@@ -61,7 +57,9 @@ near c = omega (arith, c .loop-test .taken, begun c .before .before .before .bef
 
 -- the stops in use, the next stop, whether the train stops at this point, and the cap there
 few : (c : tie.Start Inv-loop μ-loop) → c .args .train .«stop_count» ≤ 64
-few c = omega (arith, counts (c .args .line) (c .args .train) (c .pre .0))
+few c =
+    let n = length-row (entry (c .args .train .stops)) (c .args .train .«stop_count») in
+    omega (arith, c .pre .0 .rule3Train .stops-most)
 
 next-stop :
     (c : tie.After-cap-of Inv-loop μ-loop) →
@@ -83,7 +81,9 @@ cap-here :
     c .cap-of .result .0 ≡ cap (asLine (start (in-loop c) .args .line)) (asTrain (start (in-loop c) .args .train)) (in-loop c .before .loop .i)
 cap-here c =
     let o = in-loop c in
-    cap-at _ _ (start o .pre .0) (o .before .loop .i) (on-line o) (o .before .loop .inv .1) (stopped c) (c .cap-of .ensures)
+    let s = start o in
+    cap-at _ _ (s .pre .0) (o .before .loop .i) (covering-lowest (s .args .line) (s .args .train) (s .pre .0) (o .before .loop .inv .1) (on-line o)) (stopped c)
+    (c .cap-of .ensures)
 
 size-requires : tie.Need-size-requires Inv-loop μ-loop
 size-requires c κs = search needs
@@ -99,44 +99,33 @@ last-top-requires c κs =
 bands-of-requires : tie.Need-bands-of-requires Inv-loop μ-loop
 bands-of-requires c κs = search needs
 
-lowest-limit-requires : tie.Need-lowest-limit-requires Inv-loop μ-loop
-lowest-limit-requires c κs = search needs
-
-squared-of-requires : tie.Need-squared-of-requires Inv-loop μ-loop
-squared-of-requires c κs =
-    let t = c .before .before .before .before .before in
-    let s = t .before .before .before .before .before .before .before in
-    omega (
-      arith,
-      c .lowest-limit .ensures,
-      lowest-le (entry (s .args .line .limits)) (t .last-top .result) 0 1,
-      t .last-top .ensures,
-      last-top-most _ _ (s .pre .0),
-    )
+first-covered-requires : tie.Need-first-covered-requires Inv-loop μ-loop
+first-covered-requires c κs = search needs
 
 first-stop-requires : tie.Need-first-stop-requires Inv-loop μ-loop
 first-stop-requires c κs = search needs
 
 loop-holds : tie.Need-loop-holds Inv-loop μ-loop
 loop-holds c =
-    let cap = c .before .before in
-    let t = cap .before .before .before .before .before .before in
+    let first = c .before .before in
+    let t = first .before .before .before .before .before .before in
     let s = t .before .before .before .before .before .before .before in (
       omega arith,
-      covered-begun (s .args .line) (s .args .train) (s .pre .0) _ _
-          (cap .squared-of .ensures ∙ ap squared (rw (t .last-top .ensures) at (cap .before .lowest-limit .ensures))),
+      covering-first (s .args .line) (s .args .train) (s .pre .0) (t .last-top .ensures) (t .before .train-cells .ensures) (first .first-covered .ensures),
       behind-first (s .args .train .stops) (few s) (c .first-stop .ensures),
       before-start _ _,
       omega arith,
       fill-none _ _ _,
-      stays-none _ _ _ _ _,
     )
 
 stop-ahead-requires : tie.Need-stop-ahead-requires Inv-loop μ-loop
 stop-ahead-requires c κs = search needs
 
 cap-of-requires : tie.Need-cap-of-requires Inv-loop μ-loop
-cap-of-requires c κs = search needs
+cap-of-requires c κs =
+    let o = c .before .before .before in
+    let s = start o in
+    covering-most (s .args .line) (s .args .train) (s .pre .0) (o .before .loop .inv .1)
 
 capped-step-requires : tie.Need-capped-step-requires Inv-loop μ-loop
 capped-step-requires c κs =
@@ -161,15 +150,7 @@ add-i : tie.Need-add-i Inv-loop μ-loop
 add-i c = omega (arith, near (in-loop (c .before .before .before)))
 
 covered-at-requires : tie.Need-covered-at-requires Inv-loop μ-loop
-covered-at-requires c κs =
-    let o = in-loop (c .before .before .before .before .before) in
-    let s = start o in
-    let r = covered-ready (s .args .line) (s .args .train) (s .pre .0) (o .before .loop .inv .1) in
-    let n = counts (s .args .line) (s .args .train) (s .pre .0) in
-    let cells = begun o .before .before .train-cells .ensures in (
-      (r .0, r .1, n .1, omega (arith, cells, cells-most _ _ (s .pre .0)), omega (arith, top o, last-top-most _ _ (s .pre .0))),
-      (rw (top o) (r .2), (o .before .loop .inv .6, points-positive (s .args .line) (s .args .train) (s .pre .0))),
-    )
+covered-at-requires c κs = search needs
 
 loop-less : tie.Need-loop-less Inv-loop μ-loop
 loop-less c = search needs
@@ -185,13 +166,12 @@ loop-again c =
     let here = cap-here k in
     let v = forward-at _ _ p (o .before .loop .i) (o .before .loop .inv .3) here (traction-is _ _ p _ (bands o) _) (step .capped-step .ensures) in (
       omega (arith, o .loop-test .taken),
-      covered-on (a .line) (a .train) p (o .before .loop .i) (o .before .loop .inv .1) (begun o .before .before .train-cells .ensures) (top o)
+      covering-next (a .line) (a .train) p (top o) (begun o .before .before .train-cells .ensures) (o .before .loop .i) (o .before .loop .inv .1)
           (c .covered-at .ensures),
       behind-on (next-stop k) (omega arith),
       before-next _ _ (o .before .loop .i) v,
       omega (arith, here, cap-most _ _ p (o .before .loop .i), step .capped-step .ensures),
       fill-up (o .before .loop .inv .5) (omega arith) (add-one _) (omega (arith, on-line o, s .pre .1)) v,
-      c .covered-at .ensures .stays,
     )
 
 same-length : tie.Need-same-length Inv-loop μ-loop
@@ -215,8 +195,7 @@ write-forward-spec =
     train-cells-requires
     last-top-requires
     bands-of-requires
-    lowest-limit-requires
-    squared-of-requires
+    first-covered-requires
     first-stop-requires
     loop-holds
     stop-ahead-requires

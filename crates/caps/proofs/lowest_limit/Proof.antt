@@ -1,11 +1,13 @@
 use mathlib.Core.Path.{_≡_}
 use Prim.Native.Nat.{_≤_, _-_, _+_}
 use native.Mathlib.Omega.{arith}
-use Rattle.run.proofs.Lowest.{lowest-none, lowest-down, lowest-all}
+use borrow.Author.Tests.{le-leb, lt-leb}
+use Rattle.caps.specs.Caps.{lowestLimit}
+use Rattle.caps.proofs.Lowest.{lowest-none, lowest-down, lowest-all}
 use Rattle.rules.specs.Count.{entry, lowestFrom}
 use borrow.Author.Needs.{needs}
-use Rattle.run.proofs.walk.lowest_limit.Statement.{statement}
-use Rattle.run.proofs.walk.lowest_limit.Tie as tie
+use Rattle.caps.proofs.lowest_limit.Statement.{statement}
+use Rattle.caps.proofs.lowest_limit.Tie as tie
 
 abbrev Inv-loop : tie.InvT-loop
 Inv-loop limits top tail head lowest₀ left₀ lowest left = (left ≤ head + 1 - tail) ×
@@ -13,6 +15,10 @@ Inv-loop limits top tail head lowest₀ left₀ lowest left = (left ≤ head + 1
 
 abbrev μ-loop : tie.MeasureT-loop
 μ-loop limits top tail head lowest₀ left₀ lowest left = left
+
+returns : tie.Need-returns Inv-loop μ-loop
+unfolding lowestLimit
+returns c = rw (le-leb 64 (c .before .args .head) (c .if1 .taken))
 
 add-less : tie.Need-add-less Inv-loop μ-loop
 add-less c = search needs
@@ -51,8 +57,11 @@ loop-again c = (
       (c .before .wide .ensures .0) (c .lower .ensures),
 )
 
-returns : tie.Need-returns Inv-loop μ-loop
-returns c = lowest-all _ _ _ _ (omega arith) (c .before .loop .inv .1)
+returns-2 : tie.Need-returns-2 Inv-loop μ-loop
+unfolding lowestLimit
+returns-2 c =
+    let a = c .before .before .before .before .args in
+    rw (lt-leb 64 (a .head) (c .before .before .before .if1 .left)) (lowest-all _ _ _ _ (omega arith) (c .before .loop .inv .1))
 
 pub lowest-limit-spec : {M : Type 1} → statement M
 lowest-limit-spec =
@@ -60,6 +69,7 @@ lowest-limit-spec =
     (tie.spec
     Inv-loop
     μ-loop
+    returns
     add-less
     less-requires
     loop-holds
@@ -71,4 +81,4 @@ lowest-limit-spec =
     lower-requires
     loop-less
     loop-again
-    returns)
+    returns-2)
