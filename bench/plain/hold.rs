@@ -18,7 +18,7 @@ fn approach_point(speeds: &[u32], loss: u64, from: usize, start: usize) -> usize
     point
 }
 
-pub fn hold_record(line: &Line, train: &Train, speeds: &[u32], times: &[u64]) -> HoldRecord {
+fn hold_record(line: &Line, train: &Train, speeds: &[u32], times: &[u64]) -> HoldRecord {
     let loss = line.braking_loss(train) as u64;
     let cells = line.cells(train);
     let clearing = (line.release + line.set_up) as u64 * TENTH + COMMUNICATION;

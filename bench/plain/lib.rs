@@ -1,9 +1,9 @@
 //! The rules of document 01 as a plain Rust program, to time the library against. Nothing is proved here.
 
-pub mod hold;
+mod hold;
 pub mod line;
 mod run;
-pub mod sheet;
+mod sheet;
 mod study;
 
 pub use hold::hold;
