@@ -3,8 +3,7 @@
 use widths::size;
 use widths::wide;
 ghost use mathlib.Core.Path.{_≡_};
-ghost use Prim.Native.Nat.{_+_, _-_, _<_, min};
-ghost use Rattle.rules.specs.Count.{entry, lowestFrom};
+ghost use Prim.Native.Nat.{_-_, _<_, min};
 ghost use Rattle.caps.specs.Caps.{inUse, nextBegun, nextPoint, lowestLimit, covering, coveredAt};
 
 // The limits from the tail's to the head's; `lowest` is the lowest of them and the last band's top, in km/h. They are the same at all points
@@ -103,7 +102,7 @@ fn cover<'a>(
     }
 }
 
-// With the head at point 0.
+// The limits covered with the head at point 0. `n` is the train's length in cells.
 pub fn first_covered<'a>(
     points: &'a [u16; 64],
     limits: &'a [u16; 64],
@@ -116,7 +115,7 @@ pub fn first_covered<'a>(
     cover(points, limits, count, top, n, 0, 0)
 }
 
-// With the head at point i, from those covered at the point before.
+// The limits covered with the head at point i, from those at the point before.
 pub fn covered_at<'a>(
     points: &'a [u16; 64],
     limits: &'a [u16; 64],

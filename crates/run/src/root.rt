@@ -51,7 +51,7 @@ fn root_met(met: &mut [u32], roots: &mut [u32], w: SquaredSpeed) -> Speed
     found
 }
 
-// The root of w, where `here` is that of the squared speed at hand.
+// The root of w, where `here` is the root of the squared speed before.
 pub(crate) fn root_after(
     met: &mut [u32],
     roots: &mut [u32],

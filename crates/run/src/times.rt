@@ -21,13 +21,13 @@ ghost use Rattle.rules.specs.Time.{cellTime, runTimes};
 ghost use Rattle.values.specs.Values.{asLine, asTrain};
 ghost use Rattle.run.specs.Times.{IsCellTime};
 
-// The time of a cell in microseconds, by the sum of its two roots. A sum of 0 stands for no cell.
+// A cell's time in microseconds, and the sum of its two roots that gives it. A sum of 0 stands for no cell.
 pub struct CellTime {
     pub sum: u32,
     pub time: u64,
 }
 
-// Over a step in m.
+// The time of a cell with this sum of roots, over a step in m.
 fn cell_time(step: u64, sum: u32) -> u64
     requires { ⌜ (step ≤ 100) × (sum ≤ 131070) × (0 < sum) ⌝ }
     ensures { λ r. ⌜ r ≡ ceilDiv (720000000 * step) sum ⌝ }
