@@ -53,9 +53,6 @@ module _ (points : List ℕ) (count at : ℕ) where
   unfolding nextPoint
   point-none h = rw (le-ltb (at + 1) count h)
 
-next-below : (points : List ℕ) (count at c : ℕ) → at < count → nextBegun points count at c < count
-next-below points count at c h = next-cases (λ k. k < count) points count at c (λ p q. p) (λ p. h)
-
 -- ---- limits in force
 
 -- the limits from the tail's to the head's hold in the cells that the train covers with its head at point i

@@ -1,4 +1,4 @@
-use Prim.Native.Nat.{_+_, _<_, min}
+use Prim.Native.Nat.{_+_, _<_}
 use native.Mathlib.Omega.{arith}
 use Rattle.caps.specs.Caps.{inUse}
 use Rattle.caps.proofs.Covering.{begun-next, begun-same}
