@@ -1,7 +1,7 @@
 /* Vellumrill: running times, block holds and earliest starts for lines under ERTMS Level 2.
  *
  * The calls of target/staticlib/libvellumrill.a, which `rt staticlib vellumrill` builds for x86-64 Linux. The rules
- * are document 01; each call is proved against them (crates/vellumrill/src/lib.rt has the contracts).
+ * are documents 01 and 02; each call is proved against them (crates/vellumrill/src/lib.rt has the contracts).
  *
  * `file` and `len` are the bytes of a line file, and train k is counted from 0. Times are in microseconds.
  *
@@ -21,7 +21,7 @@
  *    8  stops are less than two points apart or pass the last point, or a dwell is above 3,600 s
  *    9  a train has no room behind the last block
  *   10  the file has no train k
- *   11  a lent buffer has fewer entries than are to be written
+ *   11  a lent buffer has fewer entries or bytes than are to be written
  *   12  a block count is not 1 to 32, or the sheet has more than 64 trains, or a free time above trains times 2^44
  *   13  the sheet has 64 trains
  *   14  the hold record has another block count than the sheet, a hold that is empty, or an end above 2^44
@@ -37,7 +37,7 @@ extern "C" {
 #endif
 
 /* Raised whenever a call, a struct or the meaning of a figure changes. */
-#define VR_VERSION 1
+#define VR_VERSION 2
 
 /* The numbers by name. */
 enum {
@@ -60,6 +60,9 @@ enum {
 
 /* The most that an accepted file has of each, and the most bytes of the text of its sheet. */
 enum { VR_MOST_POINTS = 4096, VR_MOST_TRAINS = 64, VR_MOST_BLOCKS = 32, VR_MOST_TEXT = 2390 };
+
+/* The bytes of a point in the diagram, and the most bytes of a diagram. */
+enum { VR_POINT_SIZE = 24, VR_MOST_DIAGRAM = VR_MOST_POINTS * VR_POINT_SIZE };
 
 /* When the hold of each block begins and ends, from the train's start on. Places beyond `blocks` are not used. */
 typedef struct vr_hold_record {
@@ -147,6 +150,16 @@ uint64_t vr_run(const uint8_t *file, size_t len, uint64_t k, uint32_t *speeds, s
  * entry. */
 vr_hold_answer vr_hold(const uint8_t *file, size_t len, uint64_t k, uint32_t *speeds, size_t ns, uint64_t *times,
                        size_t nt);
+
+/* The speed-distance diagram of train k.
+ * Returns the number 0 and the count of bytes, VR_POINT_SIZE for each of the P points; or the number of refusal by rules
+ * 1 to 10, then 11 where n is less than this count, and 0 bytes. Writes to the first bytes, point after point, three
+ * doubles (IEEE 754, eight bytes each, low byte first): the position in metres from the first point, the speed in
+ * hundredths of a km/h, which is the root of vr_run's squared speed, and the arrival as vr_run gives it. Each is a whole
+ * number below 2^53, so that turning it back into an integer loses nothing. The bytes may be those of an array of double,
+ * three for each point. The other bytes are kept. VR_MOST_DIAGRAM bytes are enough for every file. A refusal keeps every
+ * byte. */
+vr_written vr_diagram(const uint8_t *file, size_t len, uint64_t k, uint8_t *bytes, size_t n);
 
 /* Opens a sheet of starts for a line with so many blocks.
  * Returns 0, or the number 12. Writes to the sheet this block count, no trains, and 0 for every free time; whatever it

@@ -108,6 +108,17 @@ static void print_sheet(const vr_sheet *sheet)
 /* How many places the columns of the whole file get, and how many bytes its text: enough, or too few. */
 enum { COLUMNS = 3, COLUMN_BOUND = 80, TEXT_BOUND = 3000 };
 
+/* What a call that is lent bytes alone answers, and the bytes that it has written. */
+static void print_written(const char *call, vr_written answer, uint8_t *bytes, size_t length)
+{
+    printf("%s %" PRIu64 " %" PRIu64, call, answer.number, answer.bytes);
+    size_t count = written(bytes, 1, length);
+    for (size_t i = 0; i < count; i++)
+        printf(" %d", bytes[i]);
+    printf("\n");
+    free(bytes);
+}
+
 static void ask_whole_file(const struct question *asked)
 {
     vr_sizes_answer sizes = vr_sizes(asked->file, asked->length);
@@ -132,11 +143,17 @@ static void ask_whole_file(const struct question *asked)
     size_t text_length = 7 * asked->speeds_length % TEXT_BOUND;
     uint8_t *text = filled(text_length);
     vr_written study = vr_study(asked->file, asked->length, text, text_length);
-    printf("study %" PRIu64 " %" PRIu64, study.number, study.bytes);
-    for (size_t i = 0; i < written(text, 1, text_length); i++)
-        printf(" %d", text[i]);
-    printf("\n");
-    free(text);
+    print_written("study", study, text, text_length);
+}
+
+/* Bytes for as many points as there are entries for speeds, or one byte less or more. */
+static void ask_diagram(const struct question *asked)
+{
+    size_t length = VR_POINT_SIZE * asked->speeds_length + asked->times_length % 3;
+    length -= length > 0;
+    uint8_t *bytes = filled(length);
+    vr_written diagram = vr_diagram(asked->file, asked->length, asked->k, bytes, length);
+    print_written("diagram", diagram, bytes, length);
 }
 
 static void ask_checks(const struct question *asked)
@@ -199,6 +216,7 @@ int main(void)
     while (read_question(&asked)) {
         ask_checks(&asked);
         ask_whole_file(&asked);
+        ask_diagram(&asked);
         ask_run(&asked);
         vr_hold_record *hold = ask_hold(&asked);
         ask_sheet(hold);

@@ -1,7 +1,8 @@
 """The library for C, called from Python, with checks of all memory that is lent to it.
 
 The shared object is linked from the archive that `rt staticlib vellumrill` writes. Every lent buffer is filled with a
-pattern first and has guard entries behind it; the highest byte of a squared speed or a time is never that of the pattern.
+pattern first and has guard entries behind it; the highest byte of a squared speed, a time or a double is never that of the
+pattern.
 """
 import ctypes
 import subprocess
@@ -69,6 +70,7 @@ CALLS = {
     "vr_headway": (HeadwayAnswer, [POINTER(HoldRecord), POINTER(HoldRecord)]),
     "vr_rows": (RowsAnswer, FILE + 3 * [POINTER(c_uint64), c_size_t]),
     "vr_study": (Written, FILE + [POINTER(c_uint8), c_size_t]),
+    "vr_diagram": (Written, FILE + [c_uint64, POINTER(c_uint8), c_size_t]),
 }
 
 
@@ -148,6 +150,19 @@ class Library:
         answer = self.hold_in_c(*lent.arguments(k))
         return answer.number, answer.hold, *lent.written(answer.number)
 
+    def diagram(self, data, k, length):
+        """The number, the count of bytes, and the bytes written."""
+        return self.bytes_of(self.diagram_in_c, data, [k], length)
+
+    def bytes_of(self, call, data, arguments, length):
+        """What a call answers and writes that is lent bytes alone."""
+        file, lent = lent_file(data), filled(c_uint8, length)
+        answer = call(file, len(data), *arguments, lent, length)
+        untouched("file", bytes(file) == data)
+        written = bytes(written_entries(lent, length))
+        untouched("bytes on a refusal", answer.number == 0 or not written)
+        return answer.number, answer.bytes, written
+
     # ---- whole files
 
     def rows(self, data, *lengths):
@@ -161,12 +176,7 @@ class Library:
 
     def study(self, data, length):
         """The number, the count of bytes, and the text written."""
-        file, text = lent_file(data), filled(c_uint8, length)
-        answer = self.study_in_c(file, len(data), text, length)
-        untouched("file", bytes(file) == data)
-        written = bytes(written_entries(text, length))
-        untouched("text on a refusal", answer.number == 0 or not written)
-        return answer.number, answer.bytes, written
+        return self.bytes_of(self.study_in_c, data, [], length)
 
     # ---- sheets
 

@@ -1,8 +1,9 @@
--- The marked cases of document 01 over the definitions, as one table, and a longer line beside it. Each entry is proved by computation.
--- Assumes nothing.
+-- The marked cases of document 01 over the definitions, as one table, a longer line beside it, and the sample's diagram. Each entry is
+-- proved by computation. Assumes nothing.
 use Prim.Native.Nat.{ℕ, _/_, _%_}
 use mathlib.Core.List.{List, [], _∷_, _++_}
 use mathlib.Core.Path.{_≡_, refl}
+use lib.Ieee.{ofInt, toBits}
 use lib.ListN.{getD, take, replicate}
 use Rattle.rules.specs.Count.{_and_, rowFrom, every, within, greatestBelow, lowestFrom, firstBelow, lastBelow, ceilDiv}
 use Rattle.rules.specs.File.{word, words, recordAt}
@@ -16,6 +17,7 @@ use Rattle.rules.specs.Refusal.{firstBroken, refusal, whole, nothingAfter, line
 use Rattle.rules.specs.Refusal.{stopsRule, lastBlockRule, decided, trainThere, buffersLong, sheetRule, holdRule}
 use Rattle.rules.specs.Calls.{fileRefusal, trainRefusal, trainRecord, runRefusal, held, accepted, added, opened, headwayOf, headway}
 use Rattle.rules.specs.Demand.{answers}
+use Rattle.rules.specs.Diagram.{double, recordOf, diagramPoint, lowFirst, doubleBytes, pointBytes, diagramBytes}
 use Rattle.rules.specs.Text.{digitsOf, decimal, field, header, trainLine, refusalText, joined, holdsFrom, fileAnswers, runningTime, lineOfTrain}
 use Rattle.rules.specs.Text.{sheetText, programText}
 
@@ -122,14 +124,27 @@ pub record Middle : Type 0 where
       32 ∷ 50 ∷ 50 ∷ 55 ∷ 56 ∷ 55 ∷ 57 ∷ 48 ∷ 48 ∷ 49 ∷ 32 ∷ 52 ∷ 10 ∷ 51 ∷ 32 ∷ 50 ∷ 53 ∷ 52 ∷ 56 ∷ 50 ∷ 48 ∷ 50 ∷ 49 ∷ 50 ∷ 32 ∷ 50 ∷ 54 ∷ 52 ∷ 55 ∷
       50 ∷ 49 ∷ 50 ∷ 52 ∷ 48 ∷ 32 ∷ 49 ∷ 10 ∷ [])
 
-pub tables : Marked × Middle
+-- ---- document 02, request 01: the diagram of the sample's first train, a line for each point: position, speed and arrival
+
+pub record Diagram : Type 0 where
+  pub sample-bytes :
+      diagramBytes (lineOf sample) (trainOf sample 0) ≡
+      (0 ∷ 0 ∷ 0 ∷ 0 ∷ 0 ∷ 0 ∷ 0 ∷ 0 ∷ 0 ∷ 0 ∷ 0 ∷ 0 ∷ 0 ∷ 0 ∷ 0 ∷ 0 ∷ 0 ∷ 0 ∷ 0 ∷ 0 ∷ 0 ∷ 0 ∷ 0 ∷ 0 ∷ [])
+      ++ ((0 ∷ 0 ∷ 0 ∷ 0 ∷ 0 ∷ 0 ∷ 89 ∷ 64 ∷ 0 ∷ 0 ∷ 0 ∷ 0 ∷ 0 ∷ 32 ∷ 172 ∷ 64 ∷ 0 ∷ 0 ∷ 0 ∷ 0 ∷ 208 ∷ 18 ∷ 115 ∷ 65 ∷ [])
+      ++ ((0 ∷ 0 ∷ 0 ∷ 0 ∷ 0 ∷ 0 ∷ 105 ∷ 64 ∷ 0 ∷ 0 ∷ 0 ∷ 0 ∷ 0 ∷ 227 ∷ 179 ∷ 64 ∷ 0 ∷ 0 ∷ 0 ∷ 16 ∷ 97 ∷ 249 ∷ 122 ∷ 65 ∷ [])
+      ++ ((0 ∷ 0 ∷ 0 ∷ 0 ∷ 0 ∷ 192 ∷ 114 ∷ 64 ∷ 0 ∷ 0 ∷ 0 ∷ 0 ∷ 0 ∷ 91 ∷ 184 ∷ 64 ∷ 0 ∷ 0 ∷ 0 ∷ 128 ∷ 178 ∷ 132 ∷ 128 ∷ 65 ∷ [])
+      ++ ((0 ∷ 0 ∷ 0 ∷ 0 ∷ 0 ∷ 0 ∷ 121 ∷ 64 ∷ 0 ∷ 0 ∷ 0 ∷ 0 ∷ 0 ∷ 227 ∷ 179 ∷ 64 ∷ 0 ∷ 0 ∷ 0 ∷ 120 ∷ 180 ∷ 140 ∷ 131 ∷ 65 ∷ [])
+      ++ ((0 ∷ 0 ∷ 0 ∷ 0 ∷ 0 ∷ 64 ∷ 127 ∷ 64 ∷ 0 ∷ 0 ∷ 0 ∷ 0 ∷ 0 ∷ 32 ∷ 172 ∷ 64 ∷ 0 ∷ 0 ∷ 0 ∷ 0 ∷ 253 ∷ 127 ∷ 135 ∷ 65 ∷ [])
+      ++ (0 ∷ 0 ∷ 0 ∷ 0 ∷ 0 ∷ 192 ∷ 130 ∷ 64 ∷ 0 ∷ 0 ∷ 0 ∷ 0 ∷ 0 ∷ 0 ∷ 0 ∷ 0 ∷ 0 ∷ 0 ∷ 0 ∷ 128 ∷ 178 ∷ 132 ∷ 144 ∷ 65 ∷ []))))))
+
+pub tables : Marked × Middle × Diagram
 unfolding bytes sampleLine sampleTrain sampleWith sample middleLine middleTrain middle _and_ rowFrom every within greatestBelow lowestFrom firstBelow
     lastBelow ceilDiv word words recordAt lineOf trainAt squared change brakingLoss trainCells limitFrom cellLimit lastOr lowestCovered capSpeed listed
     capOf cap bandStep bandsStep tractionStep forwardSweep backwardBefore backwardSweep forward runAt runRow nextDigit rootDigits root cellTime dwellFrom
     dwell arrival departure arrivals approachPoint holdBegin holdEnd holdWith fresh leastStart blockNamed released sheetAfter firstBroken refusal whole
     nothingAfter lineSizes trainSizes limitPointsRule limitsRule blocksRule bandsRule stopsRule lastBlockRule decided trainThere buffersLong sheetRule holdRule
     fileRefusal trainRefusal trainRecord runRefusal held added opened headway answers digitsOf decimal field header trainLine refusalText joined holdsFrom
-    fileAnswers runningTime lineOfTrain sheetText programText
+    fileAnswers runningTime lineOfTrain sheetText programText double recordOf diagramPoint lowFirst doubleBytes pointBytes diagramBytes ofInt toBits
 tables = (
   record {
     m1 = refl;
@@ -167,4 +182,5 @@ tables = (
         refl;
     text = refl;
   },
+  record { sample-bytes = refl },
 )

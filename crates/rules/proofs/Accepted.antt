@@ -255,14 +255,23 @@ module _ (file : List ℕ) where
   train-there k z h =
       file-passed (rule 10 (trainThere file k) ∷ []) z ∙ head-kept 10 _ [] (lt-ltb k (trainCount file) h) ∙ refusal-none
 
+  -- the rules of the file and 10 come first, then others
+  pub train-first : (k : ℕ) (others : List Rule) → (trainRefusal file k ≡ 0 → ⊥) → refusal (trainRules file k ++ others) ≡ trainRefusal file k
+  unfolding trainRefusal
+  train-first k others h = append-refused (trainRules file k) others (train-positive k) h
+
+  pub train-passed : (k : ℕ) (others : List Rule) → trainRefusal file k ≡ 0 → refusal (trainRules file k ++ others) ≡ refusal others
+  unfolding trainRefusal
+  train-passed k others z = append-kept (trainRules file k) others (train-positive k) z
+
   pub run-refused : (k speeds times : ℕ) → (trainRefusal file k ≡ 0 → ⊥) → runRefusal file k speeds times ≡ trainRefusal file k
-  unfolding trainRefusal runRefusal
-  run-refused k speeds times h = append-refused (trainRules file k) (rule 11 (buffersLong (lineOf file) speeds times) ∷ []) (train-positive k) h
+  unfolding runRefusal
+  run-refused k speeds times h = train-first k _ h
 
   pub run-by-buffers : (k speeds times : ℕ) → trainRefusal file k ≡ 0 → runRefusal file k speeds times ≡ cond (buffersLong (lineOf file) speeds times) 0 11
-  unfolding trainRefusal runRefusal
+  unfolding runRefusal
   run-by-buffers k speeds times z =
-      append-kept (trainRules file k) (rule 11 (buffersLong (lineOf file) speeds times) ∷ []) (train-positive k) z
+      train-passed k (rule 11 (buffersLong (lineOf file) speeds times) ∷ []) z
       ∙ refusal-cons 11 (buffersLong (lineOf file) speeds times) [] ∙ rw refusal-none
 
   -- a run that is not refused: the train is not, and both buffers have P entries
@@ -310,3 +319,7 @@ module _ (file : List ℕ) (ok : fileRefusal file ≡ 0) where
         rule9 = r₉;
         parallel = parallel file _;
       }
+
+-- of a train that is not refused
+pub train-admitted : (file : List ℕ) (k : ℕ) → trainRefusal file k ≡ 0 → Admitted (lineOf file) (trainOf file k)
+train-admitted file k z = let both = train-accepted file k z in admitted file (both .0) k (both .1)

@@ -24,3 +24,4 @@ pub mod Written
 pub mod Lengths
 pub mod Answers
 pub mod Room
+pub mod Diagram

@@ -1,5 +1,5 @@
 -- The root is the greatest whole number whose square is at most its argument, and grows with it. Assumes nothing.
-use Prim.Native.Nat.{ℕ, zero, suc, _+_, _*_, _/_, _≤_, _<_}
+use Prim.Native.Nat.{ℕ, zero, suc, _+_, _-_, _*_, _/_, _≤_, _<_}
 use mathlib.Core.Bool.{Bool, true, false, cond}
 use mathlib.Core.Path.{_≡_, refl}
 use native.Mathlib.Nat.{mul-suc, suc-mul, mul-mul-mul-comm, mul-le-mul, lt-of-not-le, not-le-of-lt, le-antisymm, le-of-suc-le-suc, lt-of-le-of-lt, le-trans}
@@ -55,6 +55,10 @@ root-only {w} {r} h = le-antisymm (root-least r (h .square)) (h .greatest (root 
 
 pub root-between : {w r : ℕ} → r * r ≤ w → w < suc r * suc r → r ≡ root w
 root-between h k = root-only (between h k)
+
+-- the same by what is left of w after the square
+pub root-left : {w r : ℕ} → r * r ≤ w → w - r * r ≤ 2 * r → r ≡ root w
+root-left {w} {r} h k = root-between h (omega (arith, square-suc r))
 
 pub root-mono : {v w : ℕ} → v ≤ w → root v ≤ root w
 root-mono {v} h = root-least (root v) (le-trans (root-is v .square) h)

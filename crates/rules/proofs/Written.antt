@@ -9,7 +9,10 @@ use native.Mathlib.Omega.{arith}
 use lib.ListN.{length, take, drop, set, length-append, length-take, length-drop, take-append-drop}
 use lib.Seq.{take-at, drop-append-add, drop-drop, set-split}
 use Rattle.rules.specs.Calls.{written}
+use Rattle.rules.specs.Count.{row}
 use Rattle.rules.specs.Text.{joined}
+use Rattle.rules.proofs.Count.{length-row}
+use Rattle.rules.proofs.Fill.{Filled, fill-done}
 
 module _ (buffer : List ℕ) (at : ℕ) where
   pub written-none : buffer ≡ written buffer at []
@@ -47,6 +50,17 @@ written-front s xs = rw zero-add
 module _ (s xs : List ℕ) where
   pub written-long : {s′ : List ℕ} → s′ ≡ written s 0 xs → length xs ≤ length s → length s′ ≡ length s
   written-long e h = rw (e, written-front s xs) (simp (length-append, length-drop) (omega arith))
+
+pub written-row : (f : ℕ → ℕ) (n : ℕ) (s : List ℕ) → written s 0 (row f n) ≡ row f n ++ drop n s
+written-row f n s = rw length-row at (written-front s (row f n))
+
+-- the first entries are the row
+pub row-taken : (f : ℕ → ℕ) (n : ℕ) (s : List ℕ) {after : List ℕ} → after ≡ written s 0 (row f n) → take n after ≡ row f n
+row-taken f n s e = rw (e, written-row f n s) (take-at (row f n) _ n (length-row f n))
+
+-- a buffer whose first entries a loop has filled
+pub fill-written : {f : ℕ → ℕ} {n : ℕ} {s₀ s : List ℕ} → Filled f 0 n s₀ s → n ≤ length s₀ → s ≡ written s₀ 0 (row f n)
+fill-written {f} {n} {s₀} r h = fill-done r h ∙ sym (written-row f n s₀)
 
 -- ---- pieces one behind the other
 

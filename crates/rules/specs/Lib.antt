@@ -1,4 +1,4 @@
--- The rules of document 01, a file for each of its parts, in the paper's order.
+-- The rules of document 01, a file for each of its parts, in the paper's order; then those of document 02, a file for each request.
 pub mod Count
 pub mod File
 pub mod Reading
@@ -14,3 +14,4 @@ pub mod Numbers
 pub mod Demand
 pub mod Text
 pub mod Meaning
+pub mod Diagram

@@ -4,26 +4,25 @@ use mathlib.Core.Bool.{cond}
 use mathlib.Core.List.{List, [], _∷_}
 use mathlib.Core.Path.{_≡_, refl, sym, _∙_, subst}
 use lib.ListN.{length, take}
-use lib.Seq.{take-at}
 use borrow.Author.Tests.{le-leb, lt-leb}
-use Rattle.rules.specs.Count.{_and_, row}
+use Rattle.rules.specs.Count.{_and_}
 use Rattle.rules.specs.File.{pointCount}
 use Rattle.rules.specs.Line.{Line, Train, lineOf, trainOf}
-use Rattle.rules.specs.Run.{runRow, runAt}
-use Rattle.rules.specs.Time.{arrival, arrivals, runTimes, FastestRun}
+use Rattle.rules.specs.Run.{runRow}
+use Rattle.rules.specs.Time.{arrivals, runTimes, FastestRun}
 use Rattle.rules.specs.Refusal.{rule, refusal, rulesOn, buffersLong}
 use Rattle.rules.specs.Calls.{written, trainRefusal, runRefusal, speedsAfter, timesAfter}
 use Rattle.rules.specs.Admitted.{Parallel, Admitted}
 use Rattle.rules.proofs.Count.{length-row}
 use Rattle.rules.proofs.Refusal.{refusal-none, refusal-cons, append-refused, append-kept}
-use Rattle.rules.proofs.Accepted.{on-positive, on-kept, run-refused, run-by-buffers, train-accepted, admitted}
+use Rattle.rules.proofs.Accepted.{on-positive, on-kept, run-refused, run-by-buffers, train-admitted}
 use Rattle.rules.proofs.Calls.{lent-written, lent-kept, run-leaves}
 use Rattle.rules.proofs.Time.{fastest}
 use Rattle.values.specs.declared.decoded.Line as decodedLine
 use Rattle.values.specs.declared.decoded.Train as decodedTrain
 use Rattle.values.specs.Values.{asLine, asTrain}
 use Rattle.run.specs.Calls.{runRefusalOn, speedsOn, timesOn}
-use Rattle.run.proofs.Rows.{written-row}
+use Rattle.rules.proofs.Written.{row-taken}
 
 -- the arrays of a decoded line and train are parallel
 pub decoded-parallel : (l : decodedLine.Line) (t : decodedTrain.Train) → Parallel (asLine l) (asTrain t)
@@ -77,27 +76,15 @@ module _ (l : Line) (t : Train) where
       FastestRun l t (take (l .points) speeds′) (take (l .points) times′)
   unfolding runRow arrivals
   first-points a speeds times p q =
-      let s = p ∙ written-row (runAt l t) (l .points) speeds in
-      let m = q ∙ written-row (arrival l t (row (runAt l t) (l .points))) (l .points) times in
-      rw (
-        s,
-        m,
-        take-at (row (runAt l t) (l .points)) _ (l .points) (length-row (runAt l t) (l .points)),
-        take-at
-            (row (arrival l t (row (runAt l t) (l .points))) (l .points)) _ (l .points) (length-row _ (l .points)),
-      )
-      (fastest l t a)
+      rw (row-taken _ (l .points) speeds p, row-taken _ (l .points) times q) (fastest l t a)
 
 -- ---- of a file
 
 module _ (file : List ℕ) (k : ℕ) where
   -- an accepted train's run goes by its line and its train
   module _ (z : trainRefusal file k ≡ 0) where
-    of-file : Admitted (lineOf file) (trainOf file k)
-    of-file = let both = train-accepted file k z in admitted file (both .0) k (both .1)
-
     pub same-refusal : (ns nt : ℕ) → runRefusalOn (lineOf file) (trainOf file k) ns nt ≡ runRefusal file k ns nt
-    same-refusal ns nt = by-buffers (lineOf file) (trainOf file k) ns nt (on-kept _ _ of-file) ∙ sym (run-by-buffers file k ns nt z)
+    same-refusal ns nt = by-buffers (lineOf file) (trainOf file k) ns nt (on-kept _ _ (train-admitted file k z)) ∙ sym (run-by-buffers file k ns nt z)
 
     pub same-buffers : (speeds times : List ℕ) →
         (speedsOn (lineOf file) (trainOf file k) speeds times ≡ speedsAfter file k speeds times) ×

@@ -18,7 +18,7 @@ use Rattle.rules.proofs.Run.{run-moves}
 use Rattle.rules.proofs.Time.{arrival-first, arrival-next, arrival-most, departure-is}
 use Rattle.stops.specs.declared.Stop.{Stop}
 use Rattle.stops.specs.Stops.{Behind}
-use Rattle.run.proofs.Rows.{fill-written}
+use Rattle.rules.proofs.Written.{fill-written}
 
 -- at the arrival at point i: the next stop, the time, the root of the squared speed, and the earlier arrivals in the buffer
 pub record Arrived (l : Line) (t : Train) (times₀ : List ℕ) (i : ℕ) (stop : Stop) (time here : ℕ) (times : List ℕ) : Type 0 where

@@ -16,7 +16,7 @@ use Rattle.rules.proofs.Fill.{entry-in}
 use Rattle.rules.proofs.Cap.{cap-most}
 use Rattle.rules.proofs.Run.{forward-is, length-run}
 use Rattle.rules.specs.Calls.{written}
-use Rattle.run.proofs.Rows.{written-row}
+use Rattle.rules.proofs.Written.{written-row}
 
 -- the backward sweep depends on its tops below n alone
 module _ (tops others : ℕ → ℕ) (loss n : ℕ) (same : (k : ℕ) → k < n → tops k ≡ others k) where

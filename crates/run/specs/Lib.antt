@@ -1,4 +1,3 @@
 pub mod Traction
 pub mod Calls
-pub mod Roots
 pub mod Times

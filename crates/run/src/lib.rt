@@ -1,8 +1,8 @@
 // The run of a train: its squared speeds and its arrivals.
 mod bands;
 mod forward;
+mod kept;
 mod numbers;
-mod root;
 mod sweep;
 mod times;
 

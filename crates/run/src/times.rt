@@ -1,6 +1,6 @@
 // The running times: cell times and dwells added up from point to point.
-use crate::root::root;
-use crate::root::root_after;
+use crate::kept::root_after;
+use roots::root;
 use stops::dwell_at;
 use stops::first_stop;
 use stops::stop_ahead;
@@ -66,15 +66,14 @@ pub(crate) fn write_times(line: Line, train: Train, speeds: &[u32], times: &mut 
     let mut stop = first_stop(&stop_points, train.stop_count);
     let mut time = 0;
     let mut cell = CellTime { sum: 0, time: 0 };
-    let mut met = [0u32; 512];
-    let mut roots = [0u32; 512];
+    let mut kept = [0u16; 512];
     let mut here = root(SquaredSpeed(speeds[0]));
     while i < last {
         times[i] = time;
         stop = stop_ahead(&stop_points, train.stop_count, stop, i);
         let dwell = dwell_at(&dwells, stop, i);
         let ahead = SquaredSpeed(speeds[i + 1]);
-        let there = root_after(&mut met, &mut roots, SquaredSpeed(speeds[i]), here, ahead);
+        let there = root_after(&mut kept, SquaredSpeed(speeds[i]), here, ahead);
         cell = cell_after(wide64(line.step), cell, here, there);
         time = time + dwell + cell.time;
         here = there;

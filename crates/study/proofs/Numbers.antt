@@ -6,20 +6,17 @@ use mathlib.Core.Logic.{_↔_}
 use mathlib.Core.Path.{_≡_, refl, sym, ap, _∙_}
 use native.Mathlib.Omega.{arith}
 use lib.Dec.{leb, eqb}
-use lib.ListN.{length, take}
-use lib.Seq.{take-at}
+use lib.ListN.{length}
 use borrow.Author.Tests.{leb-true, le-leb, eqb-true, ne-eqb}
 use Rattle.rules.specs.Calls.{written, lentAfter, fileRefusal}
-use Rattle.rules.specs.Count.{_and_, orZero, row}
+use Rattle.rules.specs.Count.{_and_, orZero}
 use Rattle.rules.specs.File.{trainCount}
 use Rattle.rules.specs.Numbers.{AnswersBy}
 use Rattle.rules.specs.Refusal.{rule, refusal, decided, fileRules}
 use Rattle.rules.proofs.Accepted.{file-first, file-passed}
 use Rattle.rules.proofs.Calls.{lent-written, lent-kept}
-use Rattle.rules.proofs.Count.{length-row}
 use Rattle.rules.proofs.Numbers.{Judges, judges-none, judges-first, judges-file, both-kept, answers-by}
 use Rattle.rules.proofs.Refusal.{refusal-none, head-broken, head-kept}
-use Rattle.rules.proofs.Written.{written-front}
 use Rattle.study.specs.declared.RowsAnswer.{RowsAnswer}
 use Rattle.study.specs.Rows.{startsOf, runsOf, blocksOf, rowsRefusal, rowsChecks, rowsAnswer}
 
@@ -95,10 +92,6 @@ module _ (file starts runs blocks : List ℕ) where
   accepted-with e q s r b =
       rw (← e)
       (rw q, s ∙ sym (lent-written (startsOf file) starts), r ∙ sym (lent-written (runsOf file) runs), b ∙ sym (lent-written (blocksOf file) blocks))
-
--- the entries in use of a slice
-pub column-taken : (f : ℕ → ℕ) (n : ℕ) (slice : List ℕ) {after : List ℕ} → after ≡ written slice 0 (row f n) → take n after ≡ row f n
-column-taken f n slice e = rw (e, written-front slice (row f n)) (take-at (row f n) _ n (length-row f n))
 
 -- the fields of an answer
 module _ {x : RowsAnswer} (n trains : ℕ) (e : x ≡ rowsAnswer n trains) where

@@ -21,13 +21,13 @@ use Rattle.rules.proofs.Count.{length-row, entry-row}
 use Rattle.rules.proofs.Refusal.{refusal-none, head-kept}
 use Rattle.rules.proofs.Room.{text-most}
 use Rattle.rules.proofs.Text.{text-accepted, text-refused, program-long, program-whole}
-use Rattle.rules.proofs.Written.{written-long}
+use Rattle.rules.proofs.Written.{written-long, row-taken}
 use Rattle.text.specs.declared.WriteAnswer.{WriteAnswer}
 use Rattle.text.specs.Text.{writeAnswer, lineAt, rowsText, equalCounts, roomRefusal, sheetRefusal}
 use Rattle.text.proofs.Room.{answer-written}
 use Rattle.text.proofs.Rows.{counts-equal, rows-joined, counts-kept}
 use Rattle.study.specs.Rows.{startAt, blockAt, startsOf, runsOf, blocksOf, rowsRefusal, LeastForFile}
-use Rattle.study.proofs.Numbers.{rows-refused, rows-long, column-taken}
+use Rattle.study.proofs.Numbers.{rows-refused, rows-long}
 use Rattle.study_text.specs.Study.{studyRefusal}
 
 -- ---- the sheet of a file
@@ -86,7 +86,7 @@ module _ (file : List ℕ) (ok : fileRefusal file ≡ 0) where
     columns = rw q (taken (startAt file) s, taken (runningTime file) r, taken (blockAt file) b)
       where
         taken : (f : ℕ → ℕ) {after : List ℕ} → after ≡ lentAfter n (row f T) zeros → take T after ≡ row f T
-        taken f e = column-taken f T zeros (e ∙ rw z (lent-written _ zeros))
+        taken f e = row-taken f T zeros (e ∙ rw z (lent-written _ zeros))
 
     pub columns-long : (t ≤ length starts) × (t ≤ length runs) × (t ≤ length blocks)
     columns-long = rw q (long (startAt file) s, long (runningTime file) r, long (blockAt file) b)

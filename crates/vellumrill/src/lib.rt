@@ -16,6 +16,7 @@ ghost use lib.ListN.{length, take};
 ghost use Rattle.rules.specs.Calls.{lentAfter, fileRefusal, trainRefusal, recordPlace, runRefusal, speedsAfter, timesAfter, held, opened, added};
 ghost use Rattle.rules.specs.Calls.{headway};
 ghost use Rattle.rules.specs.Demand.{ThirdDemand};
+ghost use Rattle.rules.specs.Diagram.{diagramBytes, diagramRefusal, diagramAfter, CarriesRun};
 ghost use Rattle.rules.specs.File.{pointCount, trainCount};
 ghost use Rattle.rules.specs.Line.{lineOf, trainOf};
 ghost use Rattle.rules.specs.Text.{sheetText};
@@ -198,4 +199,18 @@ pub extern "C" fn vr_study(file: &[u8], text: &mut [u8]) -> WriteAnswer
     ensures least { λ r. ⌜ (r .number ≡ 0 → LeastForFile (now (file .entry)) (startsOf (now (file .entry)))) ⌝ }
 {
     study_text::study(file, text)
+}
+
+// The speed-distance diagram of train k: rules 1 to 10, then 11 where the lent bytes are fewer than 24 for each point. The bytes carry the
+// run's own figures, and those behind them keep their values. A refusal leaves every byte as it came.
+#[no_mangle]
+pub extern "C" fn vr_diagram(file: &[u8], k: u64, bytes: &mut [u8]) -> WriteAnswer
+    ensures answer { λ r. ⌜
+        r
+        ≡ writeAnswer (diagramRefusal (now (file .entry)) k (length (now (bytes .entry))))
+        (diagramBytes (lineOf (now (file .entry))) (trainOf (now (file .entry)) k)) ⌝ }
+    ensures bytes { λ r. ⌜ now (bytes .exit) ≡ diagramAfter (now (file .entry)) k (now (bytes .entry)) ⌝ }
+    ensures figures { λ r. ⌜ (r .number ≡ 0 → CarriesRun (lineOf (now (file .entry))) (trainOf (now (file .entry)) k) (now (bytes .exit))) ⌝ }
+{
+    diagram::diagram(file, k, bytes)
 }

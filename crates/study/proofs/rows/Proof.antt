@@ -2,7 +2,8 @@ use native.Mathlib.Omega.{arith}
 use lib.ListN.{length}
 use Rattle.line.proofs.Opening.{file-number, file-accepted, file-trains}
 use Rattle.study.proofs.Least.{least-for-file}
-use Rattle.study.proofs.Numbers.{rows-refused, rows-short, rows-long, refused-by, accepted-with, column-taken}
+use Rattle.rules.proofs.Written.{row-taken}
+use Rattle.study.proofs.Numbers.{rows-refused, rows-short, rows-long, refused-by, accepted-with}
 use borrow.Author.Needs.{needs}
 use Rattle.study.proofs.rows.Statement.{statement}
 use Rattle.study.proofs.rows.Tie as tie
@@ -81,7 +82,7 @@ returns-3 c =
     let r = accepted-with (a .file .now) (a .starts .now) (a .runs .now) (a .blocks .now) n trains (e .0) (e .1) (e .2) in
     let bytes = o .before .before .before .before .shared-slice-known .given in
     let least-starts = least-for-file (a .file .now) ok (λ i. omega (arith, bytes i)) in
-    (r .0, (r .1, (r .2, (r .3, λ z. rw (column-taken _ _ (a .starts .now) (e .0)) least-starts))))
+    (r .0, (r .1, (r .2, (r .3, λ z. rw (row-taken _ _ (a .starts .now) (e .0)) least-starts))))
 
 pub rows-spec : {M : Type 1} → statement M
 rows-spec =

@@ -1,7 +1,7 @@
-use Prim.Native.Nat.{_+_, _-_, _^_, _≤_, _<_}
+use Prim.Native.Nat.{ℕ, _+_, _-_, _^_, _≤_, _<_}
 use mathlib.Core.Path.{_≡_, refl, sym, ap, _∙_}
 use native.Mathlib.Omega.{arith}
-use lib.ListN.{length-set}
+use lib.ListN.{length, length-set, length-replicate}
 use Rattle.rules.specs.Count.{entry}
 use Rattle.rules.specs.Run.{runRow}
 use Rattle.rules.specs.Time.{root, dwell}
@@ -9,20 +9,18 @@ use Rattle.rules.proofs.Count.{length-row}
 use Rattle.values.specs.Values.{asLine, asTrain}
 use Rattle.stops.specs.Stops.{NextStop}
 use Rattle.stops.proofs.Passing.{behind-first, next-here, dwell-here, behind-on}
-use Rattle.run.specs.Roots.{RootsMet}
 use Rattle.run.specs.Times.{IsCellTime}
-use Rattle.run.proofs.RootsMet.{met-none}
 use Rattle.run.proofs.Arriving.{Arrived, arrived-first, arrived-next, arrived-last, roots-move, clock-most}
 use borrow.Author.Needs.{needs}
 use Rattle.run.proofs.times.write_times.Statement.{statement}
 use Rattle.run.proofs.times.write_times.Tie as tie
 
 abbrev Inv-loop : tie.InvT-loop
-Inv-loop line train speeds times₀ stop-points dwells last i₀ stop₀ time₀ cell₀ met₀ roots₀ here₀ times i stop time cell met roots here =
-    Arrived (asLine line) (asTrain train) times₀ i stop time (here .0) times × RootsMet met roots × IsCellTime (line .step) cell
+Inv-loop line train speeds times₀ stop-points dwells last i₀ stop₀ time₀ cell₀ kept₀ here₀ times i stop time cell kept here =
+    Arrived (asLine line) (asTrain train) times₀ i stop time (here .0) times × (length kept ≡ 512) × IsCellTime (line .step) cell
 
 abbrev μ-loop : tie.MeasureT-loop
-μ-loop line train speeds times₀ stop-points dwells last i₀ stop₀ time₀ cell₀ met₀ roots₀ here₀ times i stop time cell met roots here =
+μ-loop line train speeds times₀ stop-points dwells last i₀ stop₀ time₀ cell₀ kept₀ here₀ times i stop time cell kept here =
     last - i
 
 abbrev in-loop : tie.After-dwell-at Inv-loop μ-loop → tie.In-loop Inv-loop μ-loop
@@ -32,10 +30,10 @@ abbrev start : tie.In-loop Inv-loop μ-loop → tie.Start Inv-loop μ-loop
 start c = c .before .before .before .before .before .before .before .before .before .before .before
 
 abbrev rooted : tie.After-wide64 Inv-loop μ-loop → tie.After-root-after Inv-loop μ-loop
-rooted c = c .before .before .before
+rooted c = c .before .before
 
 abbrev dwelled : tie.After-root-after Inv-loop μ-loop → tie.After-dwell-at Inv-loop μ-loop
-dwelled c = c .before .before .before .before .before
+dwelled c = c .before .before .before .before
 
 -- the point after this one is on the line, and its squared speed is the run's
 ahead : (c : tie.In-loop Inv-loop μ-loop) → c .before .loop .i + 1 < start c .args .line .points
@@ -82,8 +80,8 @@ sub-last c = search needs
 first-stop-requires : tie.Need-first-stop-requires Inv-loop μ-loop
 first-stop-requires c κs = search needs
 
-shared-slice-read-t21 : tie.Need-shared-slice-read-t21 Inv-loop μ-loop
-shared-slice-read-t21 c = search needs
+shared-slice-read-t20 : tie.Need-shared-slice-read-t20 Inv-loop μ-loop
+shared-slice-read-t20 c = search needs
 
 root-requires : tie.Need-root-requires Inv-loop μ-loop
 root-requires c κs = search needs
@@ -94,7 +92,7 @@ loop-holds c =
     let a = first .before .before .before .before .before .before .before in (
       arrived-first _ _ (a .pre .0) (behind-first (a .args .train .stops) (few a) (first .first-stop .ensures)) (c .root .ensures .0)
           (a .pre .1 .1 0 (omega (arith, a .pre .0 .rule3Line .points-least))) (c .root .ensures .1),
-      met-none,
+      length-replicate {A = ℕ} 512 0,
       λ h. absurd (omega arith),
     )
 
@@ -110,32 +108,29 @@ stop-ahead-requires c κs = search needs
 dwell-at-requires : tie.Need-dwell-at-requires Inv-loop μ-loop
 dwell-at-requires c κs = search needs
 
-add-t24 : tie.Need-add-t24 Inv-loop μ-loop
-add-t24 c = search needs
+add-t23 : tie.Need-add-t23 Inv-loop μ-loop
+add-t23 c = search needs
 
-mul-t28 : tie.Need-mul-t28 Inv-loop μ-loop
-mul-t28 c = search needs
+mul-t27 : tie.Need-mul-t27 Inv-loop μ-loop
+mul-t27 c = search needs
 
-shared-slice-read-t30 : tie.Need-shared-slice-read-t30 Inv-loop μ-loop
-shared-slice-read-t30 c = search needs
+shared-slice-read-t29 : tie.Need-shared-slice-read-t29 Inv-loop μ-loop
+shared-slice-read-t29 c = search needs
 
 slice-aggregate-root-after : tie.Need-slice-aggregate-root-after Inv-loop μ-loop
 slice-aggregate-root-after c = search needs
 
-slice-aggregate-root-after-2 : tie.Need-slice-aggregate-root-after-2 Inv-loop μ-loop
-slice-aggregate-root-after-2 c = search needs
+mul-t23 : tie.Need-mul-t23 Inv-loop μ-loop
+mul-t23 c = search needs
 
-mul-t24 : tie.Need-mul-t24 Inv-loop μ-loop
-mul-t24 c = search needs
-
-shared-slice-read-t30-2 : tie.Need-shared-slice-read-t30-2 Inv-loop μ-loop
-shared-slice-read-t30-2 c =
-    let o = in-loop (c .before .before .before .before) in
+shared-slice-read-t29-2 : tie.Need-shared-slice-read-t29-2 Inv-loop μ-loop
+shared-slice-read-t29-2 c =
+    let o = in-loop (c .before .before .before) in
     omega (arith, ahead o, start o .pre .1 .0 .0)
 
 root-after-requires : tie.Need-root-after-requires Inv-loop μ-loop
 root-after-requires c κs =
-    let o = in-loop (c .before .before .before .before) in
+    let o = in-loop (c .before .before .before) in
     let here = o .before .loop .inv .0 in
     (o .before .loop .inv .1, here .speed ∙ ap root (sym (start o .pre .1 .1 (o .before .loop .i) (here .point))), here .slow)
 
@@ -218,20 +213,19 @@ write-times-spec =
     size-requires
     sub-last
     first-stop-requires
-    shared-slice-read-t21
+    shared-slice-read-t20
     root-requires
     loop-holds
     mul-times
     slice-write-times
     stop-ahead-requires
     dwell-at-requires
-    add-t24
-    mul-t28
-    shared-slice-read-t30
+    add-t23
+    mul-t27
+    shared-slice-read-t29
     slice-aggregate-root-after
-    slice-aggregate-root-after-2
-    mul-t24
-    shared-slice-read-t30-2
+    mul-t23
+    shared-slice-read-t29-2
     root-after-requires
     wide64-requires
     cell-after-requires

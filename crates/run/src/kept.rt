@@ -1,0 +1,50 @@
+// Roots that a run has met, kept so that they are not found again.
+use roots::is_root;
+use roots::root;
+use values::Speed;
+use values::SquaredSpeed;
+use widths::wide;
+ghost use mathlib.Core.Path.{_≡_};
+ghost use Prim.Native.Nat.{_≤_, _<_};
+ghost use lib.ListN.{length};
+ghost use Rattle.rules.specs.Time.{root as rootOf};
+
+// Of 512 places for roots, that of w. Any place would do.
+fn place_of(w: SquaredSpeed) -> usize
+    ensures { λ r. ⌜ r < 512 ⌝ }
+{
+    (w.0 / 4099) as usize % 512
+}
+
+// The root of w: the root kept at its place, if that is its root, else found and kept there.
+fn root_kept(kept: &mut [u16], w: SquaredSpeed) -> Speed
+    requires { ⌜ length (now kept) ≡ 512 ⌝ }
+    ensures { λ r. ⌜ (r .0 ≡ rootOf (w .0)) × (r .0 ≤ 65535) ⌝ }
+    ensures { λ _. ⌜ length (now (kept .exit)) ≡ 512 ⌝ }
+{
+    let place = place_of(w);
+    let guess = kept[place];
+    if is_root(guess, w) {
+        return Speed(wide(guess));
+    }
+    let found = root(w);
+    kept[place] = found.0 as u16;
+    found
+}
+
+// The root of w, where `here` is the root of the squared speed before.
+pub(crate) fn root_after(
+    kept: &mut [u16],
+    before: SquaredSpeed,
+    here: Speed,
+    w: SquaredSpeed,
+) -> Speed
+    requires { ⌜ (length (now kept) ≡ 512) × (here .0 ≡ rootOf (before .0)) × (here .0 ≤ 65535) ⌝ }
+    ensures { λ r. ⌜ (r .0 ≡ rootOf (w .0)) × (r .0 ≤ 65535) ⌝ }
+    ensures { λ _. ⌜ length (now (kept .exit)) ≡ 512 ⌝ }
+{
+    if w.0 == before.0 {
+        return here;
+    }
+    root_kept(kept, w)
+}
