@@ -11,11 +11,12 @@
 
 #include "vellumrill.h"
 
+/* No accepted file has so many bytes. */
 enum { MOST_BYTES = 16384, FIGURES = VR_POINT_SIZE / sizeof(double) };
 
 int main(int argc, char **argv)
 {
-    static uint8_t file[MOST_BYTES + 1];
+    static uint8_t file[MOST_BYTES];
     static double figures[VR_MOST_POINTS * FIGURES];
     FILE *in = argc == 3 ? fopen(argv[1], "rb") : NULL;
     if (in == NULL) {

@@ -15,6 +15,7 @@ use Rattle.rules.specs.Time.{root, arrival, arrivals, runTimes}
 use Rattle.rules.proofs.Calls.{lent-written}
 use Rattle.rules.proofs.Count.{length-row}
 use Rattle.rules.proofs.Fill.{entry-in}
+use Rattle.rules.proofs.Run.{length-run}
 use Rattle.rules.proofs.Time.{arrival-most, entry-times}
 use Rattle.rules.proofs.Written.{written-long, written-row, row-taken, joined-agree}
 use Rattle.run.specs.Calls.{runRefusalOn, speedsOn, timesOn}
@@ -32,10 +33,6 @@ places = length-replicate {A = ℕ} 4096 0
 module _ (l : Line) (t : Train) (a : Admitted l t) (z : refusal (rulesOn l t) ≡ 0) where
   few : l .points ≤ 4096
   few = a .rule3Line .points-most
-
-  run-length : length (runRow l t) ≡ l .points
-  unfolding runRow
-  run-length = length-row (runAt l t) (l .points)
 
   -- a row in front of its array
   in-front :
@@ -80,9 +77,9 @@ module _ (l : Line) (t : Train) (a : Admitted l t) (z : refusal (rulesOn l t) �
     unfolding rootsOf
     roots-front {roots} r =
         let of-run : roots ≡ lentAfter (rootsRefusal (length (runRow l t)) (length zeros)) (rootsOf (runRow l t)) zeros = rw speeds-run at r in
-        let enough = long (runRow l t) zeros (rw (run-length, places) few) in
+        let enough = long (runRow l t) zeros (rw (length-run l t, places) few) in
         let put : roots ≡ written zeros 0 (rootsOf (runRow l t)) = of-run ∙ rw (← enough) (lent-written _ zeros) in
-        rw q (in-front (λ i. root (entry (runRow l t) i)) (rw run-length at put))
+        rw q (in-front (λ i. root (entry (runRow l t) i)) (rw (length-run l t) at put))
 
     -- their records are the diagram
     pub records-run :

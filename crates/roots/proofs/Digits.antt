@@ -1,8 +1,8 @@
 -- The root digit by digit: where it lies once some digits are found; and from a guess. Assumes nothing.
 use Prim.Native.Nat.{ℕ, zero, suc, pred, _+_, _-_, _*_, _/_, _%_, _^_, _≤_, _<_}
 use mathlib.Core.Path.{_≡_, refl, sym, _∙_}
-use native.Mathlib.Nat.{mul-add, add-mul, mul-comm, mul-one, one-mul, two-mul, two-pow-succ, mod-eq-of-lt, mul-suc}
-use native.Mathlib.Nat.{suc-mul, mul-le-mul, lt-of-not-le, le-of-eq, lt-of-lt-of-le, le-trans}
+use native.Mathlib.Nat.{mul-add, add-mul, mul-comm, mul-one, one-mul, two-mul, two-pow-succ}
+use native.Mathlib.Nat.{mod-eq-of-lt, mul-le-mul, le-of-eq, lt-of-lt-of-le, le-trans}
 use native.Mathlib.Numerals.{add-one}
 use native.Mathlib.Decide.{decLe}
 use native.Mathlib.Omega.{arith}
@@ -10,9 +10,8 @@ use lib.Dec.{leb, eqb}
 use lib.Pow.{pow-mono, pow-add, pow-pos, shl-exact}
 use lib.Count.{leadingZeros, leading-length}
 use borrow.Author.Tests.{le-leb, lt-leb, eq-eqb, ne-eqb}
-use Rattle.rules.specs.Meaning.{IsRoot}
 use Rattle.rules.specs.Time.{root}
-use Rattle.rules.proofs.Root.{root-is, root-between, root-left}
+use Rattle.rules.proofs.Root.{root-is, root-between, root-left, root-leaves}
 
 -- at the loop's test: `found` is the root of the digits found, and `digits` counts those still to find
 -- the root of w is from `found` on and below found + 2 ^ digits
@@ -116,10 +115,9 @@ module _ {w left r : ℕ} (h : r ≤ 65535) (e : (left + r * r) % 2 ^ 32 ≡ w) 
 
   root-guess : left < 2 ^ 32 → r ≡ root w → left ≤ 2 * r
   root-guess b q =
-      let is : IsRoot w r = rw q (root-is w) in
-      let square = mul-le-mul h h in
-      let above : w < suc r * suc r = lt-of-not-le (λ g. omega (arith, is .greatest (suc r) g)) in
-      omega (arith, is .square, mul-suc (suc r) r, suc-mul r r)
+      let square : r * r ≤ w = rw q (root-is w .square) in
+      let leaves : w - r * r ≤ 2 * r = rw q (root-leaves w) in
+      omega (arith, mul-le-mul h h)
 
   pub guessed : left < 2 ^ 32 → leb left (2 * r) ≡ eqb r (root w)
   guessed b = go (decLe left (2 * r))

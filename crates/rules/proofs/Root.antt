@@ -60,5 +60,8 @@ root-between h k = root-only (between h k)
 pub root-left : {w r : ℕ} → r * r ≤ w → w - r * r ≤ 2 * r → r ≡ root w
 root-left {w} {r} h k = root-between h (omega (arith, square-suc r))
 
+pub root-leaves : (w : ℕ) → w - root w * root w ≤ 2 * root w
+root-leaves w = omega (arith, above (root-is w), square-suc (root w))
+
 pub root-mono : {v w : ℕ} → v ≤ w → root v ≤ root w
 root-mono {v} h = root-least (root v) (le-trans (root-is v .square) h)
