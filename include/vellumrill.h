@@ -37,7 +37,7 @@ extern "C" {
 #endif
 
 /* Raised whenever a call, a struct or the meaning of a figure changes. */
-#define VR_VERSION 2
+#define VR_VERSION 3
 
 /* The numbers by name. */
 enum {
@@ -61,8 +61,8 @@ enum {
 /* The most that an accepted file has of each, and the most bytes of the text of its sheet. */
 enum { VR_MOST_POINTS = 4096, VR_MOST_TRAINS = 64, VR_MOST_BLOCKS = 32, VR_MOST_TEXT = 2390 };
 
-/* The bytes of a point in the diagram, and the most bytes of a diagram. */
-enum { VR_POINT_SIZE = 24, VR_MOST_DIAGRAM = VR_MOST_POINTS * VR_POINT_SIZE };
+/* The bytes of a point in the diagram, where its dot stands among them, and the most bytes of a diagram. */
+enum { VR_POINT_SIZE = 25, VR_POINT_DOT = 24, VR_MOST_DIAGRAM = VR_MOST_POINTS * VR_POINT_SIZE };
 
 /* When the hold of each block begins and ends, from the train's start on. Places beyond `blocks` are not used. */
 typedef struct vr_hold_record {
@@ -156,9 +156,10 @@ vr_hold_answer vr_hold(const uint8_t *file, size_t len, uint64_t k, uint32_t *sp
  * 1 to 10, then 11 where n is less than this count, and 0 bytes. Writes to the first bytes, point after point, three
  * doubles (IEEE 754, eight bytes each, low byte first): the position in metres from the first point, the speed in
  * hundredths of a km/h, which is the root of vr_run's squared speed, and the arrival as vr_run gives it. Each is a whole
- * number below 2^53, so that turning it back into an integer loses nothing. The bytes may be those of an array of double,
- * three for each point. The other bytes are kept. VR_MOST_DIAGRAM bytes are enough for every file. A refusal keeps every
- * byte. */
+ * number below 2^53, so that turning it back into an integer loses nothing. Behind them, at VR_POINT_DOT, is one byte for
+ * the point's dot: 1, a full dot, where the squared speed is the square of that speed, so also at a stop; 0, an open one,
+ * where the speed was rounded down. Points of 25 bytes are not aligned: copy the doubles out with memcpy. The other bytes
+ * are kept. VR_MOST_DIAGRAM bytes are enough for every file. A refusal keeps every byte. */
 vr_written vr_diagram(const uint8_t *file, size_t len, uint64_t k, uint8_t *bytes, size_t n);
 
 /* Opens a sheet of starts for a line with so many blocks.

@@ -8,7 +8,7 @@ The input is numbers of 8 bytes, low byte first, and the bytes of files. First c
     LENGTH      of the file, at most 20,000
     the file    so many bytes
     K           the train number
-    LENT        how many bytes are lent for the diagram, at most 98,400
+    LENT        how many bytes are lent for the diagram, at most 102,500
 Lent bytes are all 255 before the call.
 
 The output has a line for each case:
@@ -29,7 +29,7 @@ from yardstick import POINT_SIZE, Line, Refused, Train, accepted_line, diagram_c
 
 NO_BYTE = 255
 MOST_BYTES = 20000
-MOST_LENT = 98400
+MOST_LENT = 102500
 TOP = 2 ** 64 - 1
 
 

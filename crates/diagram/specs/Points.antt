@@ -1,4 +1,4 @@
--- The record of a point as the code has it, and the records of a row of roots and a row of arrivals.
+-- The record of a point as the code has it, and the points of a row of squared speeds and a row of arrivals.
 use Prim.Native.Nat.{ℕ, _*_}
 use mathlib.Core.Bool.{not}
 use mathlib.Core.List.{List}
@@ -7,6 +7,7 @@ use lib.Ieee.{isNan}
 use Rattle.rules.specs.Count.{entry}
 use Rattle.rules.specs.Diagram as rules
 use Rattle.rules.specs.Text.{joined}
+use Rattle.rules.specs.Time.{root}
 use Rattle.diagram.specs.declared.points.DiagramPoint.{DiagramPoint}
 
 abbrev pub asPoint : DiagramPoint → rules.DiagramPoint
@@ -18,10 +19,11 @@ pub record AreNumbers (p : DiagramPoint) : Type 0 where
   pub speed : T (not (isNan (p .speed)))
   pub arrival : T (not (isNan (p .arrival)))
 
--- the bytes of the record of point i
-unfoldable pub recordAt : ℕ → List ℕ → List ℕ → ℕ → List ℕ
-recordAt step roots times i = rules.pointBytes (rules.recordOf (i * step) (entry roots i) (entry times i))
+-- the bytes of point i
+unfoldable pub pointAt : ℕ → List ℕ → List ℕ → ℕ → List ℕ
+pointAt step speeds times i =
+    rules.pointBytes (rules.recordOf (i * step) (root (entry speeds i) .number) (entry times i)) (rules.dot (root (entry speeds i)))
 
--- the records of so many points
-unfoldable pub recordsOf : ℕ → ℕ → List ℕ → List ℕ → List ℕ
-recordsOf points step roots times = joined (recordAt step roots times) points
+-- those of so many points
+unfoldable pub pointsOf : ℕ → ℕ → List ℕ → List ℕ → List ℕ
+pointsOf points step speeds times = joined (pointAt step speeds times) points

@@ -1,4 +1,4 @@
-// The speed-distance diagram of a train: the record of each point as three doubles, written into lent bytes.
+// The speed-distance diagram of a train: the record of each point as three doubles and its dot, written into lent bytes.
 mod points;
 
 use points::POINT_SIZE;
@@ -26,13 +26,11 @@ fn write_diagram(line: Line, train: Train, bytes: &mut [u8])
     let points = size(line.points);
     let mut speeds = [0u32; 4096];
     let mut times = [0u64; 4096];
-    let mut roots = [0u32; 4096];
     run::run_train(line, train, &mut speeds, &mut times);
-    roots::write_roots(&speeds[..points], &mut roots);
-    write_points(points, wide(line.step), &roots, &times, bytes);
+    write_points(points, wide(line.step), &speeds, &times, bytes);
 }
 
-// The diagram call: rules 1 to 10 for train k of a file, then 11 where the lent bytes are fewer than 24 for each point. The bytes carry the
+// The diagram call: rules 1 to 10 for train k of a file, then 11 where the lent bytes are fewer than 25 for each point. The bytes carry the
 // run's own figures, and those behind them keep their values. A refusal leaves every byte as it came.
 pub fn diagram(file: &[u8], k: u64, bytes: &mut [u8]) -> WriteAnswer
     ensures answer { λ r. ⌜

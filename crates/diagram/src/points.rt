@@ -1,4 +1,9 @@
-// The record of a point, and the records of all points one behind the other.
+// The record of a point with its dot, and those of all points one behind the other.
+use roots::RootAnswer;
+use roots::dot;
+use roots::root;
+use roots::root_from;
+use values::SquaredSpeed;
 ghost use mathlib.Core.Bool.{not};
 ghost use mathlib.Core.Path.{_≡_};
 ghost use Prim.Native.Nat.{ℕ, _+_, _*_, _^_, _≤_, _<_};
@@ -7,11 +12,15 @@ ghost use lib.Ieee.{isNan};
 ghost use lib.ListN.{length};
 ghost use Rattle.rules.specs.Calls.{written};
 ghost use Rattle.rules.specs.Count.{entry};
-ghost use Rattle.rules.specs.Diagram.{recordOf, doubleBytes, pointBytes, pointSize};
-ghost use Rattle.diagram.specs.Points.{asPoint, AreNumbers, recordsOf};
+ghost use Rattle.rules.specs.Diagram.{recordOf, doubleBytes, figuresBytes, figuresSize, pointSize};
+ghost use Rattle.rules.specs.Time.{root as rootOf};
+ghost use Rattle.roots.specs.Root.{asRoot};
+ghost use Rattle.diagram.specs.Points.{asPoint, AreNumbers, pointsOf};
 
-// The bytes of a point.
-pub(crate) const POINT_SIZE: usize = 24;
+// The bytes of a record, and of a point: the record and its dot.
+const FIGURES_SIZE: usize = 24;
+
+pub(crate) const POINT_SIZE: usize = 25;
 
 // Position in metres, speed in hundredths of a km/h, arrival in microseconds.
 pub struct DiagramPoint {
@@ -45,27 +54,44 @@ fn put_double(bytes: &mut [u8], at: usize, x: f64)
     }
 }
 
-fn put_point(bytes: &mut [u8], at: usize, point: DiagramPoint)
-    requires { ⌜ AreNumbers point × (at + pointSize ≤ length (now bytes)) ⌝ }
-    ensures { λ _. ⌜ now (bytes .exit) ≡ written (now (bytes .entry)) at (pointBytes (asPoint point)) ⌝ }
+fn put_figures(bytes: &mut [u8], at: usize, point: DiagramPoint)
+    requires { ⌜ AreNumbers point × (at + figuresSize ≤ length (now bytes)) ⌝ }
+    ensures { λ _. ⌜ now (bytes .exit) ≡ written (now (bytes .entry)) at (figuresBytes (asPoint point)) ⌝ }
 {
     put_double(bytes, at, point.position);
     put_double(bytes, at + 8, point.speed);
     put_double(bytes, at + 16, point.arrival);
 }
 
-// The record of each point, by its root and its arrival. The points are a step apart.
-pub(crate) fn write_points(points: usize, step: u32, roots: &[u32], times: &[u64], bytes: &mut [u8])
-    requires { ⌜ (points ≤ 4096) × (step < 65536) × (points ≤ length (now roots)) × (points ≤ length (now times)) ⌝ }
+// The root of w, from that of the point before.
+fn root_after(here: RootAnswer, w: SquaredSpeed) -> RootAnswer
+    requires { ⌜ here .speed .0 ≤ 65535 ⌝ }
+    ensures { λ r. ⌜ (asRoot r ≡ rootOf (w .0)) × (r .speed .0 ≤ 65535) ⌝ }
+{
+    root_from(here.speed.0 as u16, w)
+}
+
+// Each point, by its squared speed and its arrival. The points are a step apart.
+pub(crate) fn write_points(
+    points: usize,
+    step: u32,
+    speeds: &[u32],
+    times: &[u64],
+    bytes: &mut [u8],
+)
+    requires { ⌜ (points ≤ 4096) × (step < 65536) × (points ≤ length (now speeds)) × (points ≤ length (now times)) ⌝ }
     requires { ⌜ ((i : ℕ) → i < points → entry (now times) i < 2 ^ 53) ⌝ }
     requires { ⌜ pointSize * points ≤ length (now bytes) ⌝ }
-    ensures { λ _. ⌜ now (bytes .exit) ≡ written (now (bytes .entry)) 0 (recordsOf points step (now (roots .entry)) (now (times .entry))) ⌝ }
+    ensures { λ _. ⌜ now (bytes .exit) ≡ written (now (bytes .entry)) 0 (pointsOf points step (now (speeds .entry)) (now (times .entry))) ⌝ }
 {
     let mut position = 0;
     let mut at = 0;
+    let mut here = root(SquaredSpeed(0));
     let mut i = 0;
     while i < points {
-        put_point(bytes, at, point_of(position, roots[i], times[i]));
+        here = root_after(here, SquaredSpeed(speeds[i]));
+        put_figures(bytes, at, point_of(position, here.speed.0, times[i]));
+        bytes[at + FIGURES_SIZE] = dot(here);
         position += step;
         at += POINT_SIZE;
         i += 1;

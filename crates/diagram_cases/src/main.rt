@@ -58,8 +58,8 @@ fn print_diagram(file: &[u8], k: u64, bytes: &mut [u8]) {
 
 // Lends the first bytes of a buffer, as many as asked.
 fn answer(file: &[u8], k: u64, lent: u64) {
-    let mut bytes = [NO_BYTE; 98400];
-    if lent <= 98400 {
+    let mut bytes = [NO_BYTE; 102500];
+    if lent <= 102500 {
         print_diagram(file, k, &mut bytes[..lent as usize]);
     }
 }

@@ -10,14 +10,14 @@ use Rattle.rules.specs.File.{word, words, recordAt}
 use Rattle.rules.specs.Line.{lineOf, trainAt, trainOf}
 use Rattle.rules.specs.Run.{squared, change, brakingLoss, trainCells, limitFrom, cellLimit, lastOr, lowestCovered, capSpeed, listed, capOf, cap}
 use Rattle.rules.specs.Run.{bandStep, bandsStep, tractionStep, forwardSweep, backwardBefore, backwardSweep, forward, runAt, runRow}
-use Rattle.rules.specs.Time.{nextDigit, rootDigits, root, cellTime, dwellFrom, dwell, arrival, departure, arrivals, runTimes}
+use Rattle.rules.specs.Time.{nextDigit, rootDigits, leaving, root, cellTime, dwellFrom, dwell, arrival, departure, arrivals, runTimes}
 use Rattle.rules.specs.Hold.{Hold, approachPoint, holdBegin, holdEnd, holdWith, holdOf}
 use Rattle.rules.specs.Sheet.{fresh, leastStart, blockNamed, released, sheetAfter}
 use Rattle.rules.specs.Refusal.{firstBroken, refusal, whole, nothingAfter, lineSizes, trainSizes, limitPointsRule, limitsRule, blocksRule, bandsRule}
 use Rattle.rules.specs.Refusal.{stopsRule, lastBlockRule, decided, trainThere, buffersLong, sheetRule, holdRule}
 use Rattle.rules.specs.Calls.{fileRefusal, trainRefusal, trainRecord, runRefusal, held, accepted, added, opened, headwayOf, headway}
 use Rattle.rules.specs.Demand.{answers}
-use Rattle.rules.specs.Diagram.{double, recordOf, diagramPoint, lowFirst, doubleBytes, pointBytes, diagramBytes}
+use Rattle.rules.specs.Diagram.{double, recordOf, diagramPoint, dot, diagramDot, lowFirst, doubleBytes, figuresBytes, pointBytes, diagramBytes}
 use Rattle.rules.specs.Text.{digitsOf, decimal, field, header, trainLine, refusalText, joined, holdsFrom, fileAnswers, runningTime, lineOfTrain}
 use Rattle.rules.specs.Text.{sheetText, programText}
 
@@ -56,10 +56,10 @@ pub record Marked : Type 0 where
       116 ∷ 114 ∷ 97 ∷ 105 ∷ 110 ∷ 32 ∷ 115 ∷ 116 ∷ 97 ∷ 114 ∷ 116 ∷ 32 ∷ 114 ∷ 117 ∷ 110 ∷ 32 ∷ 98 ∷ 108 ∷ 111 ∷ 99 ∷ 107 ∷ 10 ∷ 49 ∷ 32 ∷ 48 ∷ 32 ∷ 54 ∷
       57 ∷ 50 ∷ 56 ∷ 50 ∷ 57 ∷ 55 ∷ 54 ∷ 32 ∷ 48 ∷ 10 ∷ 50 ∷ 32 ∷ 53 ∷ 55 ∷ 50 ∷ 56 ∷ 50 ∷ 57 ∷ 55 ∷ 54 ∷ 32 ∷ 54 ∷ 57 ∷ 50 ∷ 56 ∷ 50 ∷ 57 ∷ 55 ∷ 54 ∷
       32 ∷ 50 ∷ 10 ∷ []
-  pub m5-zero : root 0 ≡ 0
-  pub m5 : root 25920000 ≡ 5091
-  pub m6-below : root 12959999 ≡ 3599
-  pub m6 : root 12960000 ≡ 3600
+  pub m5-zero : root 0 .number ≡ 0
+  pub m5 : root 25920000 .number ≡ 5091
+  pub m6-below : root 12959999 .number ≡ 3599
+  pub m6 : root 12960000 .number ≡ 3600
   pub m7 : cellTime 100 5091 6235 ≡ 6357055
   pub m8 : cellTime 1 0 360 ≡ 2000000
   pub m9 : bandsStep 10 (30 ∷ 60 ∷ []) (100 ∷ 50 ∷ []) 7000000 ≡ 9000000
@@ -124,27 +124,34 @@ pub record Middle : Type 0 where
       32 ∷ 50 ∷ 50 ∷ 55 ∷ 56 ∷ 55 ∷ 57 ∷ 48 ∷ 48 ∷ 49 ∷ 32 ∷ 52 ∷ 10 ∷ 51 ∷ 32 ∷ 50 ∷ 53 ∷ 52 ∷ 56 ∷ 50 ∷ 48 ∷ 50 ∷ 49 ∷ 50 ∷ 32 ∷ 50 ∷ 54 ∷ 52 ∷ 55 ∷
       50 ∷ 49 ∷ 50 ∷ 52 ∷ 48 ∷ 32 ∷ 49 ∷ 10 ∷ [])
 
--- ---- document 02, request 01: the diagram of the sample's first train, a line for each point: position, speed and arrival
+-- ---- document 02, requests 01 and 02: what roots leave, and the diagram of the sample's first train, a line for each point: position,
+-- speed, arrival and dot
 
 pub record Diagram : Type 0 where
+  pub left-zero : root 0 .left ≡ 0
+  pub left-most : root 12959999 .left ≡ 7198
+  pub left-none : root 12960000 .left ≡ 0
+  pub left-one : root 12960001 .left ≡ 1
+  pub left-some : root 25920000 .left ≡ 1719
   pub sample-bytes :
       diagramBytes (lineOf sample) (trainOf sample 0) ≡
-      (0 ∷ 0 ∷ 0 ∷ 0 ∷ 0 ∷ 0 ∷ 0 ∷ 0 ∷ 0 ∷ 0 ∷ 0 ∷ 0 ∷ 0 ∷ 0 ∷ 0 ∷ 0 ∷ 0 ∷ 0 ∷ 0 ∷ 0 ∷ 0 ∷ 0 ∷ 0 ∷ 0 ∷ [])
-      ++ ((0 ∷ 0 ∷ 0 ∷ 0 ∷ 0 ∷ 0 ∷ 89 ∷ 64 ∷ 0 ∷ 0 ∷ 0 ∷ 0 ∷ 0 ∷ 32 ∷ 172 ∷ 64 ∷ 0 ∷ 0 ∷ 0 ∷ 0 ∷ 208 ∷ 18 ∷ 115 ∷ 65 ∷ [])
-      ++ ((0 ∷ 0 ∷ 0 ∷ 0 ∷ 0 ∷ 0 ∷ 105 ∷ 64 ∷ 0 ∷ 0 ∷ 0 ∷ 0 ∷ 0 ∷ 227 ∷ 179 ∷ 64 ∷ 0 ∷ 0 ∷ 0 ∷ 16 ∷ 97 ∷ 249 ∷ 122 ∷ 65 ∷ [])
-      ++ ((0 ∷ 0 ∷ 0 ∷ 0 ∷ 0 ∷ 192 ∷ 114 ∷ 64 ∷ 0 ∷ 0 ∷ 0 ∷ 0 ∷ 0 ∷ 91 ∷ 184 ∷ 64 ∷ 0 ∷ 0 ∷ 0 ∷ 128 ∷ 178 ∷ 132 ∷ 128 ∷ 65 ∷ [])
-      ++ ((0 ∷ 0 ∷ 0 ∷ 0 ∷ 0 ∷ 0 ∷ 121 ∷ 64 ∷ 0 ∷ 0 ∷ 0 ∷ 0 ∷ 0 ∷ 227 ∷ 179 ∷ 64 ∷ 0 ∷ 0 ∷ 0 ∷ 120 ∷ 180 ∷ 140 ∷ 131 ∷ 65 ∷ [])
-      ++ ((0 ∷ 0 ∷ 0 ∷ 0 ∷ 0 ∷ 64 ∷ 127 ∷ 64 ∷ 0 ∷ 0 ∷ 0 ∷ 0 ∷ 0 ∷ 32 ∷ 172 ∷ 64 ∷ 0 ∷ 0 ∷ 0 ∷ 0 ∷ 253 ∷ 127 ∷ 135 ∷ 65 ∷ [])
-      ++ (0 ∷ 0 ∷ 0 ∷ 0 ∷ 0 ∷ 192 ∷ 130 ∷ 64 ∷ 0 ∷ 0 ∷ 0 ∷ 0 ∷ 0 ∷ 0 ∷ 0 ∷ 0 ∷ 0 ∷ 0 ∷ 0 ∷ 128 ∷ 178 ∷ 132 ∷ 144 ∷ 65 ∷ []))))))
+      (0 ∷ 0 ∷ 0 ∷ 0 ∷ 0 ∷ 0 ∷ 0 ∷ 0 ∷ 0 ∷ 0 ∷ 0 ∷ 0 ∷ 0 ∷ 0 ∷ 0 ∷ 0 ∷ 0 ∷ 0 ∷ 0 ∷ 0 ∷ 0 ∷ 0 ∷ 0 ∷ 0 ∷ 1 ∷ [])
+      ++ ((0 ∷ 0 ∷ 0 ∷ 0 ∷ 0 ∷ 0 ∷ 89 ∷ 64 ∷ 0 ∷ 0 ∷ 0 ∷ 0 ∷ 0 ∷ 32 ∷ 172 ∷ 64 ∷ 0 ∷ 0 ∷ 0 ∷ 0 ∷ 208 ∷ 18 ∷ 115 ∷ 65 ∷ 1 ∷ [])
+      ++ ((0 ∷ 0 ∷ 0 ∷ 0 ∷ 0 ∷ 0 ∷ 105 ∷ 64 ∷ 0 ∷ 0 ∷ 0 ∷ 0 ∷ 0 ∷ 227 ∷ 179 ∷ 64 ∷ 0 ∷ 0 ∷ 0 ∷ 16 ∷ 97 ∷ 249 ∷ 122 ∷ 65 ∷ 0 ∷ [])
+      ++ ((0 ∷ 0 ∷ 0 ∷ 0 ∷ 0 ∷ 192 ∷ 114 ∷ 64 ∷ 0 ∷ 0 ∷ 0 ∷ 0 ∷ 0 ∷ 91 ∷ 184 ∷ 64 ∷ 0 ∷ 0 ∷ 0 ∷ 128 ∷ 178 ∷ 132 ∷ 128 ∷ 65 ∷ 0 ∷ [])
+      ++ ((0 ∷ 0 ∷ 0 ∷ 0 ∷ 0 ∷ 0 ∷ 121 ∷ 64 ∷ 0 ∷ 0 ∷ 0 ∷ 0 ∷ 0 ∷ 227 ∷ 179 ∷ 64 ∷ 0 ∷ 0 ∷ 0 ∷ 120 ∷ 180 ∷ 140 ∷ 131 ∷ 65 ∷ 0 ∷ [])
+      ++ ((0 ∷ 0 ∷ 0 ∷ 0 ∷ 0 ∷ 64 ∷ 127 ∷ 64 ∷ 0 ∷ 0 ∷ 0 ∷ 0 ∷ 0 ∷ 32 ∷ 172 ∷ 64 ∷ 0 ∷ 0 ∷ 0 ∷ 0 ∷ 253 ∷ 127 ∷ 135 ∷ 65 ∷ 1 ∷ [])
+      ++ (0 ∷ 0 ∷ 0 ∷ 0 ∷ 0 ∷ 192 ∷ 130 ∷ 64 ∷ 0 ∷ 0 ∷ 0 ∷ 0 ∷ 0 ∷ 0 ∷ 0 ∷ 0 ∷ 0 ∷ 0 ∷ 0 ∷ 128 ∷ 178 ∷ 132 ∷ 144 ∷ 65 ∷ 1 ∷ []))))))
 
 pub tables : Marked × Middle × Diagram
 unfolding bytes sampleLine sampleTrain sampleWith sample middleLine middleTrain middle _and_ rowFrom every within greatestBelow lowestFrom firstBelow
     lastBelow ceilDiv word words recordAt lineOf trainAt squared change brakingLoss trainCells limitFrom cellLimit lastOr lowestCovered capSpeed listed
-    capOf cap bandStep bandsStep tractionStep forwardSweep backwardBefore backwardSweep forward runAt runRow nextDigit rootDigits root cellTime dwellFrom
-    dwell arrival departure arrivals approachPoint holdBegin holdEnd holdWith fresh leastStart blockNamed released sheetAfter firstBroken refusal whole
+    capOf cap bandStep bandsStep tractionStep forwardSweep backwardBefore backwardSweep forward runAt runRow nextDigit rootDigits leaving root cellTime
+    dwellFrom dwell arrival departure arrivals approachPoint holdBegin holdEnd holdWith fresh leastStart blockNamed released sheetAfter firstBroken refusal whole
     nothingAfter lineSizes trainSizes limitPointsRule limitsRule blocksRule bandsRule stopsRule lastBlockRule decided trainThere buffersLong sheetRule holdRule
     fileRefusal trainRefusal trainRecord runRefusal held added opened headway answers digitsOf decimal field header trainLine refusalText joined holdsFrom
-    fileAnswers runningTime lineOfTrain sheetText programText double recordOf diagramPoint lowFirst doubleBytes pointBytes diagramBytes ofInt toBits
+    fileAnswers runningTime lineOfTrain sheetText programText double recordOf diagramPoint dot diagramDot lowFirst doubleBytes
+    figuresBytes pointBytes diagramBytes ofInt toBits
 tables = (
   record {
     m1 = refl;
@@ -182,5 +189,5 @@ tables = (
         refl;
     text = refl;
   },
-  record { sample-bytes = refl },
+  record { left-zero = refl; left-most = refl; left-none = refl; left-one = refl; left-some = refl; sample-bytes = refl },
 )

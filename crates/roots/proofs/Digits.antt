@@ -1,17 +1,16 @@
 -- The root digit by digit: where it lies once some digits are found; and from a guess. Assumes nothing.
 use Prim.Native.Nat.{ℕ, zero, suc, pred, _+_, _-_, _*_, _/_, _%_, _^_, _≤_, _<_}
-use mathlib.Core.Path.{_≡_, refl, sym, _∙_}
+use mathlib.Core.Path.{_≡_, refl, sym, ap, _∙_}
 use native.Mathlib.Nat.{mul-add, add-mul, mul-comm, mul-one, one-mul, two-mul, two-pow-succ}
 use native.Mathlib.Nat.{mod-eq-of-lt, mul-le-mul, le-of-eq, lt-of-lt-of-le, le-trans}
-use native.Mathlib.Numerals.{add-one}
 use native.Mathlib.Decide.{decLe}
 use native.Mathlib.Omega.{arith}
 use lib.Dec.{leb, eqb}
 use lib.Pow.{pow-mono, pow-add, pow-pos, shl-exact}
 use lib.Count.{leadingZeros, leading-length}
 use borrow.Author.Tests.{le-leb, lt-leb, eq-eqb, ne-eqb}
-use Rattle.rules.specs.Time.{root}
-use Rattle.rules.proofs.Root.{root-is, root-between, root-left, root-leaves}
+use Rattle.rules.specs.Time.{Root, root}
+use Rattle.rules.proofs.Root.{root-is, root-leaves, root-by}
 
 -- at the loop's test: `found` is the root of the digits found, and `digits` counts those still to find
 -- the root of w is from `found` on and below found + 2 ^ digits
@@ -99,29 +98,31 @@ none-left zero h = refl
 none-left (suc k) h = let p : 2 ≤ 2 ^ suc k = pow-mono {i = 1} (omega arith) in absurd (omega (arith, mul-le-mul p p))
 
 -- no digit is still to find
-pub within-last : {w bit r left : ℕ} → Within w bit r left → bit ≡ 0 → (r ≡ root w) × (r ≤ 65535)
-within-last {w} {bit} {r} i h =
+pub within-last : {w bit r left : ℕ} → Within w bit r left → bit ≡ 0 → (record { number = r; left = left } ≡ root w) × (r ≤ 65535)
+within-last {w} {bit} {r} {left} i h =
     let z : i .digits ≡ 0 = none-left (i .digits) (omega arith) in
     let e : r ≡ i .found = rw (z, mul-one) at (i .shifted) in
-    (rw e (root-between (omega arith) (rw (z, add-one) at (i .above))), omega (arith, pow-pos (i .digits)))
+    let above : w < (i .found + 1) * (i .found + 1) = rw z at (i .above) in
+    let leaves : left ≤ 2 * i .found = omega (arith, i .rest, square-sum (i .found) 1) in
+    (rw e (root-by (i .rest) leaves), omega (arith, pow-pos (i .digits)))
 
--- a guess is the root exactly if it leaves at most twice itself, modulo 2 ^ 32
+-- a guess is the number of the root exactly if it leaves at most twice itself, modulo 2 ^ 32
 module _ {w left r : ℕ} (h : r ≤ 65535) (e : (left + r * r) % 2 ^ 32 ≡ w) where
-  guess-root : left ≤ 2 * r → r ≡ root w
+  guess-root : left ≤ 2 * r → r ≡ root w .number
   guess-root k =
       let square = mul-le-mul h h in
       let whole : left + r * r ≡ w = sym (mod-eq-of-lt (omega arith)) ∙ e in
-      root-left (omega arith) (omega arith)
+      ap (λ (a : Root). a .number) (root-by whole k)
 
-  root-guess : left < 2 ^ 32 → r ≡ root w → left ≤ 2 * r
+  root-guess : left < 2 ^ 32 → r ≡ root w .number → left ≤ 2 * r
   root-guess b q =
       let square : r * r ≤ w = rw q (root-is w .square) in
       let leaves : w - r * r ≤ 2 * r = rw q (root-leaves w) in
       omega (arith, mul-le-mul h h)
 
-  pub guessed : left < 2 ^ 32 → leb left (2 * r) ≡ eqb r (root w)
+  pub guessed : left < 2 ^ 32 → leb left (2 * r) ≡ eqb r (root w .number)
   guessed b = go (decLe left (2 * r))
     where
-      go : Dec (left ≤ 2 * r) → leb left (2 * r) ≡ eqb r (root w)
-      go (yes k) = le-leb left (2 * r) k ∙ sym (eq-eqb r (root w) (guess-root k))
-      go (no k) = lt-leb left (2 * r) (omega arith) ∙ sym (ne-eqb r (root w) (λ q. k (root-guess b q)))
+      go : Dec (left ≤ 2 * r) → leb left (2 * r) ≡ eqb r (root w .number)
+      go (yes k) = le-leb left (2 * r) k ∙ sym (eq-eqb r (root w .number) (guess-root k))
+      go (no k) = lt-leb left (2 * r) (omega arith) ∙ sym (ne-eqb r (root w .number) (λ q. k (root-guess b q)))

@@ -83,7 +83,9 @@ module _ (l : Line) (t : Train) (speeds : List ℕ) where
   unfolding departure
   departure-is i = refl
 
-  pub arrival-next : (i : ℕ) → arrival l t speeds (suc i) ≡ departure l t speeds i + cellTime (l .step) (root (entry speeds i)) (root (entry speeds (suc i)))
+  pub arrival-next :
+      (i : ℕ) →
+      arrival l t speeds (suc i) ≡ departure l t speeds i + cellTime (l .step) (root (entry speeds i) .number) (root (entry speeds (suc i)) .number)
   unfolding arrival departure
   arrival-next i = refl
 
@@ -100,7 +102,7 @@ entry-times l t i h = entry-row (arrival l t (runRow l t)) (l .points) i h
 -- ---- a faster row arrives no later
 
 -- where not both squared speeds are 0, not both roots are
-roots-above-zero : (x y : ℕ) → ((x ≡ 0) × (y ≡ 0) → ⊥) → 0 < root x + root y
+roots-above-zero : (x y : ℕ) → ((x ≡ 0) × (y ≡ 0) → ⊥) → 0 < root x .number + root y .number
 roots-above-zero zero zero h = absurd (h (refl, refl))
 roots-above-zero zero (suc y) h = omega (arith, root-least 1 {w = suc y} (omega arith))
 roots-above-zero (suc x) y h = omega (arith, root-least 1 {w = suc x} (omega arith))
@@ -132,11 +134,11 @@ module _ (l : Line) (t : Train) where
 
     -- ---- the run arrives in time
 
-    time-most : (x y : ℕ) → (2592 ≤ x) ⊎ (2592 ≤ y) → cellTime (l .step) (root x) (root y) ≤ 1440000000
+    time-most : (x y : ℕ) → (2592 ≤ x) ⊎ (2592 ≤ y) → cellTime (l .step) (root x .number) (root y .number) ≤ 1440000000
     time-most x y h =
-        let g : 50 ≤ root x + root y = ⊎-elim (λ m. omega (arith, root-least 50 {w = x} (omega arith)))
+        let g : 50 ≤ root x .number + root y .number = ⊎-elim (λ m. omega (arith, root-least 50 {w = x} (omega arith)))
         (λ m. omega (arith, root-least 50 {w = y} (omega arith))) h in
-        cell-time-is (l .step) (root x) (root y) (omega arith) .least 1440000000 (omega arith)
+        cell-time-is (l .step) (root x .number) (root y .number) (omega arith) .least 1440000000 (omega arith)
 
     dwell-most : (i k : ℕ) → IsStop t k i → suc i < l .points → dwell l t i ≤ 3600000000
     dwell-most zero k s h = omega (arith, dwell-is l t a 0 .first refl)
@@ -148,7 +150,8 @@ module _ (l : Line) (t : Train) where
     unfolding arrival
     arrival-by zero h n f = omega arith
     arrival-by (suc i) h n f =
-        let cell : cellTime (l .step) (root (entry (runRow l t) i)) (root (entry (runRow l t) (suc i))) ≤ 1440000000 = time-most _ _ (run-moves l t a i h) in
+        let cell : cellTime (l .step) (root (entry (runRow l t) i) .number) (root (entry (runRow l t) (suc i)) .number) ≤ 1440000000 =
+        time-most _ _ (run-moves l t a i h) in
         ⊎-elim
         (λ (k, s). let g : k < n = lt-of-not-le (λ m. omega (arith, f k m (s .there))) in
         omega (arith, arrival-by i (omega arith) k (λ j m q. omega (arith, stops-rise l t a k j m q)), dwell-most i k s h))

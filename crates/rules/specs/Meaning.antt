@@ -8,7 +8,7 @@ use lib.ListN.{length, getD}
 use Rattle.rules.specs.Count.{entry}
 use Rattle.rules.specs.Line.{Line, Train}
 use Rattle.rules.specs.Run.{lastTop, trainCells, cellLimit, brakingLoss}
-use Rattle.rules.specs.Time.{departure, arrival}
+use Rattle.rules.specs.Time.{Root, departure, arrival}
 use Rattle.rules.specs.Hold.{Hold}
 use Rattle.rules.specs.Sheet.{Sheet, begin, end, freeTime}
 use Rattle.rules.specs.Refusal.{Rule, rule}
@@ -57,10 +57,13 @@ pub record IsStep (l : Line) (t : Train) (w v : ℕ) : Type 0 where
   pub each : (k : ℕ) → k < length (t .tops) → bandPart l t w k ≤ v
   pub attained : (k : ℕ) × (k < length (t .tops)) × (v ≡ bandPart l t w k)
 
--- r is the greatest whole number whose square is at most w
-pub record IsRoot (w r : ℕ) : Type 0 where
-  pub square : r * r ≤ w
-  pub greatest : (s : ℕ) → s * s ≤ w → s ≤ r
+-- The number of r is the greatest whole number whose square is at most w. What is left is w less that square, 0 exactly if w is a square.
+pub record IsRoot (w : ℕ) (r : Root) : Type 0 where
+  pub square : r .number * r .number ≤ w
+  pub greatest : (s : ℕ) → s * s ≤ w → s ≤ r .number
+  pub rest : r .left ≡ w - r .number * r .number
+  pub whole : r .left ≡ 0 → r .number * r .number ≡ w
+  pub exact : (s : ℕ) → s * s ≡ w → r .left ≡ 0
 
 -- d is the dwell at point i: that of a stop other than points 0 and P - 1, in microseconds, else 0
 pub record IsDwell (l : Line) (t : Train) (i d : ℕ) : Type 0 where

@@ -1,5 +1,6 @@
--- Document 01, "The run": root, cell time, arrivals, departures, and rival rows. Times are in microseconds.
-use Prim.Native.Nat.{ℕ, zero, suc, _+_, _*_, _/_, _≤_, _<_}
+-- Document 01, "The run": root, cell time, arrivals, departures, and rival rows. Times are in microseconds. Document 02, "Req 02": the root
+-- gives, with the number, what is left of the squared speed after its square.
+use Prim.Native.Nat.{ℕ, zero, suc, _+_, _-_, _*_, _/_, _≤_, _<_}
 use mathlib.Core.Bool.{cond, _||_}
 use mathlib.Core.List.{List, [], _∷_}
 use mathlib.Core.Path.{_≡_}
@@ -12,15 +13,24 @@ use Rattle.rules.specs.Run.{Permitted, IsRun, runRow}
 unfoldable pub nextDigit : ℕ → ℕ → ℕ
 nextDigit w r = cond (leb ((2 * r + 1) * (2 * r + 1)) w) (2 * r + 1) (2 * r)
 
--- the root of w from that of a quarter of w, one binary digit more; k bounds the digits
+-- the number of the root of w from that of a quarter of w, one binary digit more; k bounds the digits
 unfoldable pub rootDigits : ℕ → ℕ → ℕ
 rootDigits zero w = 0
 rootDigits (suc k) zero = 0
 rootDigits (suc k) (suc v) = nextDigit (suc v) (rootDigits k (suc v / 4))
 
+-- the root's number and what is left of the squared speed
+pub record Root : Type 0 where
+  pub number : ℕ
+  pub left : ℕ
+
+-- a number, and what its square leaves of w
+unfoldable pub leaving : ℕ → ℕ → Root
+leaving w r = record { number = r; left = w - r * r }
+
 -- the root: the greatest whole number whose square is at most w (law `root-is`)
-unfoldable pub root : ℕ → ℕ
-root w = rootDigits w w
+unfoldable pub root : ℕ → Root
+root w = leaving w (rootDigits w w)
 
 -- cell time between roots p and q over a step of L metres
 unfoldable pub cellTime : ℕ → ℕ → ℕ → ℕ
@@ -39,7 +49,7 @@ dwell l t i = cond (eqb i 0 || eqb (suc i) (l .points)) 0 (1000000 * dwellFrom (
 -- Arrival at point 0 is 0; arrival at i + 1 is departure at i plus the cell time. The row is the train's own or a rival's.
 unfoldable pub arrival : Line → Train → List ℕ → ℕ → ℕ
 arrival l t speeds zero = 0
-arrival l t speeds (suc i) = arrival l t speeds i + dwell l t i + cellTime (l .step) (root (entry speeds i)) (root (entry speeds (suc i)))
+arrival l t speeds (suc i) = arrival l t speeds i + dwell l t i + cellTime (l .step) (root (entry speeds i) .number) (root (entry speeds (suc i)) .number)
 
 -- departure is arrival plus the dwell
 unfoldable pub departure : Line → Train → List ℕ → ℕ → ℕ

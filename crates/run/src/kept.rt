@@ -1,13 +1,14 @@
 // Roots that a run has met, kept so that they are not found again.
+use roots::RootAnswer;
 use roots::is_root;
 use roots::root;
-use values::Speed;
+use roots::root_from;
 use values::SquaredSpeed;
-use widths::wide;
 ghost use mathlib.Core.Path.{_≡_};
 ghost use Prim.Native.Nat.{_≤_, _<_};
 ghost use lib.ListN.{length};
 ghost use Rattle.rules.specs.Time.{root as rootOf};
+ghost use Rattle.roots.specs.Root.{asRoot};
 
 // Of 512 places for roots, that of w. Any place would do.
 fn place_of(w: SquaredSpeed) -> usize
@@ -16,19 +17,19 @@ fn place_of(w: SquaredSpeed) -> usize
     (w.0 / 4099) as usize % 512
 }
 
-// The root of w: the root kept at its place, if that is its root, else found and kept there.
-fn root_kept(kept: &mut [u16], w: SquaredSpeed) -> Speed
+// The root of w: from the number kept at its place, if that is its root's, else found and kept there.
+fn root_kept(kept: &mut [u16], w: SquaredSpeed) -> RootAnswer
     requires { ⌜ length (now kept) ≡ 512 ⌝ }
-    ensures { λ r. ⌜ (r .0 ≡ rootOf (w .0)) × (r .0 ≤ 65535) ⌝ }
+    ensures { λ r. ⌜ (asRoot r ≡ rootOf (w .0)) × (r .speed .0 ≤ 65535) ⌝ }
     ensures { λ _. ⌜ length (now (kept .exit)) ≡ 512 ⌝ }
 {
     let place = place_of(w);
     let guess = kept[place];
     if is_root(guess, w) {
-        return Speed(wide(guess));
+        return root_from(guess, w);
     }
     let found = root(w);
-    kept[place] = found.0 as u16;
+    kept[place] = found.speed.0 as u16;
     found
 }
 
@@ -36,11 +37,11 @@ fn root_kept(kept: &mut [u16], w: SquaredSpeed) -> Speed
 pub(crate) fn root_after(
     kept: &mut [u16],
     before: SquaredSpeed,
-    here: Speed,
+    here: RootAnswer,
     w: SquaredSpeed,
-) -> Speed
-    requires { ⌜ (length (now kept) ≡ 512) × (here .0 ≡ rootOf (before .0)) × (here .0 ≤ 65535) ⌝ }
-    ensures { λ r. ⌜ (r .0 ≡ rootOf (w .0)) × (r .0 ≤ 65535) ⌝ }
+) -> RootAnswer
+    requires { ⌜ (length (now kept) ≡ 512) × (asRoot here ≡ rootOf (before .0)) × (here .speed .0 ≤ 65535) ⌝ }
+    ensures { λ r. ⌜ (asRoot r ≡ rootOf (w .0)) × (r .speed .0 ≤ 65535) ⌝ }
     ensures { λ _. ⌜ length (now (kept .exit)) ≡ 512 ⌝ }
 {
     if w.0 == before.0 {

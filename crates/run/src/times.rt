@@ -74,7 +74,7 @@ pub(crate) fn write_times(line: Line, train: Train, speeds: &[u32], times: &mut 
         let dwell = dwell_at(&dwells, stop, i);
         let ahead = SquaredSpeed(speeds[i + 1]);
         let there = root_after(&mut kept, SquaredSpeed(speeds[i]), here, ahead);
-        cell = cell_after(wide64(line.step), cell, here, there);
+        cell = cell_after(wide64(line.step), cell, here.speed, there.speed);
         time = time + dwell + cell.time;
         here = there;
         i += 1;

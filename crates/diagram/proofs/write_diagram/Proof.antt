@@ -1,17 +1,11 @@
-use Prim.Native.Nat.{ℕ, _≤_, _<_}
-use mathlib.Core.Path.{_≡_, sym, ap, _∙_}
+use mathlib.Core.Path.{_≡_, ap, _∙_}
 use native.Mathlib.Omega.{arith}
-use lib.ListN.{length}
-use lib.Seq.{length-take-le}
 use Rattle.rules.specs.Admitted.{Admitted}
 use Rattle.rules.specs.Calls.{written}
-use Rattle.rules.specs.Count.{entry}
-use Rattle.rules.specs.Run.{runRow}
-use Rattle.rules.specs.Time.{root}
 use Rattle.rules.proofs.Accepted.{on-admitted}
 use Rattle.values.specs.Values.{asLine, asTrain}
 use Rattle.run.proofs.Answers.{decoded-parallel}
-use Rattle.diagram.proofs.Rows.{speeds-long, times-front, times-small, roots-front, records-run}
+use Rattle.diagram.proofs.Rows.{speeds-front, times-front, times-small, points-run}
 use borrow.Author.Needs.{needs}
 use Rattle.diagram.proofs.write_diagram.Statement.{statement}
 use Rattle.diagram.proofs.write_diagram.Tie as tie
@@ -19,27 +13,14 @@ use Rattle.diagram.proofs.write_diagram.Tie as tie
 abbrev start : tie.After-run-train → tie.Start
 start c = c .before .before .before .before .before
 
-abbrev ran : tie.After-write-roots → tie.After-run-train
-ran c = c .before .before .before .before .before
+abbrev ran : tie.After-wide → tie.After-run-train
+ran c = c .before .before .before
 
 admitted : (c : tie.After-run-train) → Admitted (asLine (start c .args .line)) (asTrain (start c .args .train))
 admitted c = on-admitted _ _ (start c .pre .0) (decoded-parallel (start c .args .line) (start c .args .train))
 
 points : (c : tie.After-run-train) → c .before .before .before .size .result ≡ start c .args .line .points
 points c = c .before .before .before .size .ensures .0
-
--- the rows in the arrays
-speeds-row : (c : tie.After-run-train) → c .before .before .before .size .result ≤ length (c .run-train .last .1 .1 .0)
-speeds-row c = speeds-long _ _ (admitted c) (start c .pre .0) (points c) (c .run-train .ensures .1 .0) (c .run-train .ensures .1 .1 .0)
-
-roots-row :
-    (c : tie.After-write-roots) →
-    ((i : ℕ) → i < ran c .before .before .before .size .result →
-    entry (c .write-roots .last .1 .0) i ≡ root (entry (runRow (asLine (start (ran c) .args .line)) (asTrain (start (ran c) .args .train))) i))
-    × (ran c .before .before .before .size .result ≤ length (c .write-roots .last .1 .0))
-roots-row c =
-    let r = ran c in
-    roots-front _ _ (admitted r) (start r .pre .0) (points r) (r .run-train .ensures .1 .0) (r .run-train .ensures .1 .1 .0) (c .write-roots .ensures .1)
 
 size-requires : tie.Need-size-requires
 size-requires c κs = search needs
@@ -53,18 +34,6 @@ slice-aggregate-run-train-2 c = search needs
 run-train-requires : tie.Need-run-train-requires
 run-train-requires c κs = search needs
 
-array-share-prefix-speeds : tie.Need-array-share-prefix-speeds
-array-share-prefix-speeds c = speeds-row (c .before .before)
-
-slice-aggregate-write-roots : tie.Need-slice-aggregate-write-roots
-slice-aggregate-write-roots c = sym (length-take-le _ _ (array-share-prefix-speeds (c .before)))
-
-slice-aggregate-write-roots-2 : tie.Need-slice-aggregate-write-roots-2
-slice-aggregate-write-roots-2 c = search needs
-
-write-roots-requires : tie.Need-write-roots-requires
-write-roots-requires c κs = search needs
-
 wide-requires : tie.Need-wide-requires
 wide-requires c κs = search needs
 
@@ -76,14 +45,13 @@ slice-aggregate-write-points-2 c = search needs
 
 write-points-requires : tie.Need-write-points-requires
 write-points-requires c κs =
-    let w = c .before .before .before .before .before in
-    let r = ran w in
+    let r = ran (c .before .before .before) in
     let a = start r in
     let run = r .run-train .ensures in (
       (
         omega (arith, points r, admitted r .rule3Line .points-most),
         c .before .before .before .wide .ensures .1,
-        roots-row w .1,
+        speeds-front _ _ (admitted r) (a .pre .0) (points r) (run .1 .0) (run .1 .1 .0) .1,
         times-front _ _ (admitted r) (a .pre .0) (points r) (run .1 .0) (run .1 .1 .0) .1,
       ),
       (times-small _ _ (admitted r) (a .pre .0) (points r) (run .1 .0) (run .1 .1 .0), omega (arith, points r, a .pre .1)),
@@ -95,11 +63,10 @@ same-length c = search needs
 returns : tie.Need-returns
 returns c =
     let p = c .before .before in
-    let w = p .before .before .before .before .before .before in
+    let w = p .before .before .before .before in
     let r = ran w in
     let run = r .run-train .ensures in
-    let step = p .before .before .before .before .wide .ensures .0 in
-    let drawn = records-run _ _ (admitted r) (start r .pre .0) (points r) (run .1 .0) (run .1 .1 .0) (w .write-roots .last .1 .0) step (roots-row w .0) in
+    let drawn = points-run _ _ (admitted r) (start r .pre .0) (points r) (run .1 .0) (run .1 .1 .0) (w .wide .ensures .0) in
     p .write-points .ensures ∙ ap (written (start r .args .bytes .now) 0) drawn
 
 pub write-diagram-spec : {M : Type 1} → statement M
@@ -110,10 +77,6 @@ write-diagram-spec =
     slice-aggregate-run-train
     slice-aggregate-run-train-2
     run-train-requires
-    array-share-prefix-speeds
-    slice-aggregate-write-roots
-    slice-aggregate-write-roots-2
-    write-roots-requires
     wide-requires
     slice-aggregate-write-points
     slice-aggregate-write-points-2

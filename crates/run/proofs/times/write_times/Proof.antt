@@ -7,6 +7,7 @@ use Rattle.rules.specs.Run.{runRow}
 use Rattle.rules.specs.Time.{root, dwell}
 use Rattle.rules.proofs.Count.{length-row}
 use Rattle.values.specs.Values.{asLine, asTrain}
+use Rattle.roots.specs.Root.{asRoot}
 use Rattle.stops.specs.Stops.{NextStop}
 use Rattle.stops.proofs.Passing.{behind-first, next-here, dwell-here, behind-on}
 use Rattle.run.specs.Times.{IsCellTime}
@@ -17,7 +18,7 @@ use Rattle.run.proofs.times.write_times.Tie as tie
 
 abbrev Inv-loop : tie.InvT-loop
 Inv-loop line train speeds times₀ stop-points dwells last i₀ stop₀ time₀ cell₀ kept₀ here₀ times i stop time cell kept here =
-    Arrived (asLine line) (asTrain train) times₀ i stop time (here .0) times × (length kept ≡ 512) × IsCellTime (line .step) cell
+    Arrived (asLine line) (asTrain train) times₀ i stop time (asRoot here) times × (length kept ≡ 512) × IsCellTime (line .step) cell
 
 abbrev μ-loop : tie.MeasureT-loop
 μ-loop line train speeds times₀ stop-points dwells last i₀ stop₀ time₀ cell₀ kept₀ here₀ times i stop time cell kept here =
@@ -115,7 +116,9 @@ mul-t27 : tie.Need-mul-t27 Inv-loop μ-loop
 mul-t27 c = search needs
 
 shared-slice-read-t29 : tie.Need-shared-slice-read-t29 Inv-loop μ-loop
-shared-slice-read-t29 c = search needs
+shared-slice-read-t29 c =
+    let o = in-loop (c .before) in
+    omega (arith, ahead o, start o .pre .1 .0 .0)
 
 slice-aggregate-root-after : tie.Need-slice-aggregate-root-after Inv-loop μ-loop
 slice-aggregate-root-after c = search needs

@@ -2,8 +2,8 @@ use native.Mathlib.Omega.{arith}
 use borrow.Author.Needs.{needs}
 use Rattle.diagram.specs.Points.{asPoint}
 use Rattle.diagram.proofs.Doubles.{written-three}
-use Rattle.diagram.proofs.points.put_point.Statement.{statement}
-use Rattle.diagram.proofs.points.put_point.Tie as tie
+use Rattle.diagram.proofs.points.put_figures.Statement.{statement}
+use Rattle.diagram.proofs.points.put_figures.Tie as tie
 
 put-double-requires : tie.Need-put-double-requires
 put-double-requires c κs = search needs
@@ -30,7 +30,7 @@ returns c =
     (c .before .before .before .before .before .before .before .before .before .before .put-double .ensures)
     (c .before .before .before .before .before .before .put-double2 .ensures) (c .before .before .put-double3 .ensures)
 
-pub put-point-spec : {M : Type 1} → statement M
-put-point-spec =
+pub put-figures-spec : {M : Type 1} → statement M
+put-figures-spec =
     tie.close
     (tie.spec put-double-requires add-put-double put-double-requires-2 add-put-double-2 put-double-requires-3 same-length returns)
