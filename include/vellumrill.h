@@ -158,8 +158,8 @@ vr_hold_answer vr_hold(const uint8_t *file, size_t len, uint64_t k, uint32_t *sp
  * hundredths of a km/h, which is the root of vr_run's squared speed, and the arrival as vr_run gives it. Each is a whole
  * number below 2^53, so that turning it back into an integer loses nothing. Behind them, at VR_POINT_DOT, is one byte for
  * the point's dot: 1, a full dot, where the squared speed is the square of that speed, so also at a stop; 0, an open one,
- * where the speed was rounded down. Points of 25 bytes are not aligned: copy the doubles out with memcpy. The other bytes
- * are kept. VR_MOST_DIAGRAM bytes are enough for every file. A refusal keeps every byte. */
+ * where the speed was rounded down. The points are not aligned: copy the doubles out with memcpy. The other bytes are
+ * kept. VR_MOST_DIAGRAM bytes are enough for every file. A refusal keeps every byte. */
 vr_written vr_diagram(const uint8_t *file, size_t len, uint64_t k, uint8_t *bytes, size_t n);
 
 /* Opens a sheet of starts for a line with so many blocks.

@@ -1,7 +1,7 @@
 """The library for C, called from Python, with checks of all memory that is lent to it.
 
 The shared object is linked from the archive that `rt staticlib vellumrill` writes. Every lent buffer is filled with a
-pattern first and has guard entries behind it; the highest byte of a squared speed, a time or a double is never that of the
+pattern first and has guard entries behind it; neither a dot nor the highest byte of a squared speed or a time is that of the
 pattern.
 """
 import ctypes

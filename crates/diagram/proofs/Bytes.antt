@@ -29,6 +29,15 @@ unfolding lowFirst fromLow
 fromLow-lowFirst zero n h = omega arith
 fromLow-lowFirst (suc k) n h = rw (fromLow-lowFirst k (n / 256) (omega (arith, pow-succ' 256 k))) (omega arith)
 
+-- one byte behind those that are written
+pub written-next :
+    (buffer : List ℕ) (at next : ℕ) (xs : List ℕ) (x : ℕ) {after : List ℕ} → after ≡ written buffer at xs → next ≡ at + length xs →
+    next < length buffer → next < length after → set after next x ≡ written buffer at (xs ++ (x ∷ []))
+written-next buffer at next xs x {after} e q h k =
+    written-one after next x k
+    ∙ ap (λ (s : List ℕ). written s next (x ∷ [])) e
+    ∙ written-then buffer at next xs (x ∷ []) q (omega arith)
+
 -- so many bytes of n are written, and the rest of n is still to write
 pub record Begun (buffer : List ℕ) (at n i rest : ℕ) (after : List ℕ) : Type 0 where
   pub long : length after ≡ length buffer
@@ -48,9 +57,7 @@ begun-next {buffer} {at} {n} i {rest} {after} b h =
       long = length-set after (at + i) (rest % 256) ∙ b .long;
       left = rw (b .left, div-div-eq-div-mul, add-one, ← pow-suc);
       bytes =
-          written-one after (at + i) (rest % 256) (rw (b .long) h)
-          ∙ ap (λ (s : List ℕ). written s (at + i) (rest % 256 ∷ [])) (b .bytes)
-          ∙ written-then buffer at (at + i) (lowFirst i n) (rest % 256 ∷ []) (rw k) (omega arith)
+          written-next buffer at (at + i) (lowFirst i n) (rest % 256) (b .bytes) (rw k) h (rw (b .long) h)
           ∙ ap (written buffer at) (rw (b .left, add-one) (sym (lowFirst-more i n)));
     }
 

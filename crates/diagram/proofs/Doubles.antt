@@ -1,7 +1,7 @@
 -- A whole number below 2^53 as a double: it has its bit pattern, and turns back into the same whole number. Assumes nothing.
 use Prim.Native.Nat.{ℕ, _+_, _^_, _≤_, _<_}
 use mathlib.Core.Bool.{not}
-use mathlib.Core.List.{List, [], _∷_, _++_, append-assoc}
+use mathlib.Core.List.{List, _++_, append-assoc}
 use mathlib.Core.Path.{_≡_, refl, ap, _∙_}
 use native.Mathlib.Omega.{arith}
 use lib.Dec.{T, le→leb}
@@ -10,11 +10,11 @@ use lib.Ieee.Back.{unsigned-back}
 use lib.Ieee.Bits.{ofBits-toBits, toBits-lt}
 use lib.Ieee.Fits.{ofInt-fits}
 use lib.IntN.{pos}
-use lib.ListN.{length, set, length-append}
+use lib.ListN.{length, length-append}
 use lib.Seq.{take-at, drop-at}
 use Rattle.rules.specs.Calls.{written}
 use Rattle.rules.specs.Diagram.{double, DiagramPoint, doubleBytes, figuresBytes, figuresSize, pointBytes, pointSize, fromLow, doubleAt, Carries}
-use Rattle.rules.proofs.Written.{written-one, written-then}
+use Rattle.rules.proofs.Written.{written-then}
 use Rattle.diagram.proofs.Bytes.{lowFirst-length, fromLow-lowFirst}
 
 double-back : (n : ℕ) → n < 2 ^ 53 → T (inUnsigned binary64 64 (double n)) × (toUnsigned 64 (double n) ≡ n)
@@ -55,17 +55,6 @@ written-three buffer at p h e f g =
     rw (g, f, e, written-then buffer at (at + 8) (doubleBytes (p .position)) (doubleBytes (p .speed)) (omega arith) (omega arith))
     (written-then buffer at (at + 16) _ (doubleBytes (p .arrival)) (rw length-append (omega arith)) (omega arith)
     ∙ ap (written buffer at) (append-assoc (doubleBytes (p .position)) (doubleBytes (p .speed)) (doubleBytes (p .arrival))))
-
--- the dot behind a record
-pub written-dot :
-    (buffer : List ℕ) (at : ℕ) (p : DiagramPoint) (mark : ℕ) → at + pointSize ≤ length buffer → {drawn : List ℕ} → at + figuresSize < length drawn →
-    drawn ≡ written buffer at (figuresBytes p) → set drawn (at + figuresSize) mark ≡ written buffer at (pointBytes p mark)
-unfolding pointBytes
-written-dot buffer at p mark h {drawn} room e =
-    let long = figures-bytes p in
-    written-one drawn (at + figuresSize) mark room
-    ∙ ap (λ (s : List ℕ). written s (at + figuresSize) (mark ∷ [])) e
-    ∙ written-then buffer at (at + figuresSize) (figuresBytes p) (mark ∷ []) (omega arith) (omega arith)
 
 -- ---- read back
 

@@ -12,8 +12,8 @@ use Rattle.rules.specs.Text.{joined}
 use Rattle.rules.specs.Time.{Root, root}
 use Rattle.rules.proofs.Written.{written-none, written-then, written-long, joined-next, joined-within}
 use Rattle.diagram.specs.Points.{pointAt, pointsOf}
-use Rattle.diagram.proofs.Bytes.{joined-even}
-use Rattle.diagram.proofs.Doubles.{point-bytes, written-dot}
+use Rattle.diagram.proofs.Bytes.{written-next, joined-even}
+use Rattle.diagram.proofs.Doubles.{figures-bytes, point-bytes}
 
 -- the points before i are written; `position` and `at` are those of point i
 pub record Drawn (points step : ℕ) (speeds times buffer : List ℕ) (i position at : ℕ) (after : List ℕ) : Type 0 where
@@ -43,11 +43,13 @@ module _ (points step : ℕ) (speeds times buffer : List ℕ) where
       step < 65536 → pointSize * points ≤ length buffer → r ≡ root (entry speeds i) → p ≡ recordOf position (r .number) (entry times i) →
       drawn ≡ written after at (figuresBytes p) → mark ≡ dot r → at + figuresSize < length drawn →
       Drawn points step speeds times buffer (i + 1) (position + step) (at + pointSize) (set drawn (at + figuresSize) mark)
-  unfolding pointAt
+  unfolding pointAt pointBytes
   drawn-next {i} {position} {at} {mark} {after} {drawn} {p} {r} d h s room root-here e w m inside =
       let piece : pointBytes p mark ≡ pointAt step speeds times i = rw (e, m, root-here, d .metres) in
+      let dotted : set drawn (at + figuresSize) mark ≡ written after at (pointBytes p mark) =
+      written-next after at (at + figuresSize) (figuresBytes p) mark w (omega (arith, figures-bytes p)) (omega (arith, d .place, d .long)) inside in
       let put : set drawn (at + figuresSize) mark ≡ written buffer 0 (before (i + 1)) =
-      rw (written-dot after at p mark (omega (arith, d .place, d .long)) inside w, piece, d .bytes, joined-next)
+      rw (dotted, piece, d .bytes, joined-next)
       (written-then buffer 0 at (before i) (pointAt step speeds times i) (omega (arith, d .place, before-length i))
       (omega (arith, d .place, before-length i, before-length points, joined-within (pointAt step speeds times) i points h))) in
       record {

@@ -3,7 +3,7 @@
 // byte first.
 const MOST_CASES: u64 = 100000;
 
-// What the lent bytes hold before a call: no high byte of a double that is not below 0.
+// What the lent bytes hold before a call. No dot, the last byte of a point, has this value.
 const NO_BYTE: u8 = 255;
 
 fn wide(byte: u8) -> u64 {

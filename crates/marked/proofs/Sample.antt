@@ -1,5 +1,5 @@
--- The marked cases of document 01 over the definitions, as one table, a longer line beside it, and the sample's diagram. Each entry is
--- proved by computation. Assumes nothing.
+-- The marked cases of document 01 over the definitions, as one table, a longer line beside it, what some roots leave, and the sample's
+-- diagram. Each entry is proved by computation. Assumes nothing.
 use Prim.Native.Nat.{ℕ, _/_, _%_}
 use mathlib.Core.List.{List, [], _∷_, _++_}
 use mathlib.Core.Path.{_≡_, refl}

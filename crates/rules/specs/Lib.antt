@@ -1,4 +1,4 @@
--- The rules of document 01, a file for each of its parts, in the paper's order; then those of document 02, a file for each request.
+-- The rules of document 01, a file for each of its parts, in the paper's order; then what the requests of document 02 add.
 pub mod Count
 pub mod File
 pub mod Reading

@@ -19,7 +19,7 @@ rootDigits zero w = 0
 rootDigits (suc k) zero = 0
 rootDigits (suc k) (suc v) = nextDigit (suc v) (rootDigits k (suc v / 4))
 
--- the root's number and what is left of the squared speed
+-- a root: its number, and what is left of the squared speed after the square
 pub record Root : Type 0 where
   pub number : ℕ
   pub left : ℕ
@@ -28,7 +28,7 @@ pub record Root : Type 0 where
 unfoldable pub leaving : ℕ → ℕ → Root
 leaving w r = record { number = r; left = w - r * r }
 
--- the root: the greatest whole number whose square is at most w (law `root-is`)
+-- the root: the greatest whole number whose square is at most w, and what is left (law `root-is`)
 unfoldable pub root : ℕ → Root
 root w = leaving w (rootDigits w w)
 

@@ -201,7 +201,7 @@ pub extern "C" fn vr_study(file: &[u8], text: &mut [u8]) -> WriteAnswer
     study_text::study(file, text)
 }
 
-// The speed-distance diagram of train k: rules 1 to 10, then 11 where the lent bytes are fewer than 25 for each point. The bytes carry the
+// The speed-distance diagram of train k: rules 1 to 10, then 11 where the lent bytes have no room for every point. The bytes carry the
 // run's own figures, and those behind them keep their values. A refusal leaves every byte as it came.
 #[no_mangle]
 pub extern "C" fn vr_diagram(file: &[u8], k: u64, bytes: &mut [u8]) -> WriteAnswer
