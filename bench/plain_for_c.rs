@@ -50,6 +50,13 @@ pub struct HeadwayAnswer {
     headway: u64,
 }
 
+#[repr(C)]
+pub struct PeriodAnswer {
+    number: u64,
+    period: u64,
+    percent: u64,
+}
+
 /// What is lent; a pointer with length 0 may be null.
 unsafe fn lent<'a, T>(at: *const T, len: usize) -> &'a [T] {
     if len == 0 { &[] } else { slice::from_raw_parts(at, len) }
@@ -105,6 +112,12 @@ pub unsafe extern "C" fn vr_study(file: *const u8, len: usize, text: *mut u8, n:
 }
 
 #[no_mangle]
+pub unsafe extern "C" fn vr_diagram(file: *const u8, len: usize, k: u64, bytes: *mut u8, n: usize) -> Written {
+    let (number, bytes) = split(plain::diagram(lent(file, len), k, lent_to_write(bytes, n)));
+    Written { number, bytes }
+}
+
+#[no_mangle]
 pub unsafe extern "C" fn vr_run(
     file: *const u8, len: usize, k: u64, speeds: *mut u32, ns: usize, times: *mut u64, nt: usize,
 ) -> u64 {
@@ -136,4 +149,10 @@ pub extern "C" fn vr_add(sheet: &mut Sheet, hold: &HoldRecord) -> Added {
 pub extern "C" fn vr_headway(first: &HoldRecord, second: &HoldRecord) -> HeadwayAnswer {
     let (number, headway) = split(plain::headway(first, second));
     HeadwayAnswer { number, headway }
+}
+
+#[no_mangle]
+pub extern "C" fn vr_period(sheet: &Sheet) -> PeriodAnswer {
+    let (number, (period, percent)) = split(sheet.period());
+    PeriodAnswer { number, period, percent }
 }

@@ -22,7 +22,8 @@
  *    9  a train has no room behind the last block
  *   10  the file has no train k
  *   11  a lent buffer has fewer entries or bytes than are to be written
- *   12  a block count is not 1 to 32, or the sheet has more than 64 trains, or a free time above trains times 2^44
+ *   12  a block count is not 1 to 32, or the sheet has more than 64 trains, or a free time above trains times 2^44, or
+ *       has trains and a first beginning that is not below the block's free time
  *   13  the sheet has 64 trains
  *   14  the hold record has another block count than the sheet, a hold that is empty, or an end above 2^44
  */
@@ -37,7 +38,7 @@ extern "C" {
 #endif
 
 /* Raised whenever a call, a struct or the meaning of a figure changes. */
-#define VR_VERSION 3
+#define VR_VERSION 4
 
 /* The numbers by name. */
 enum {
@@ -71,11 +72,13 @@ typedef struct vr_hold_record {
     uint64_t ends[VR_MOST_BLOCKS];
 } vr_hold_record;
 
-/* The sheet of starts: for each block when it is free again. Places beyond `blocks` are not used. */
+/* The sheet of starts: for each block when it is free again, and `first`, the first train's beginnings. Places beyond
+ * `blocks` are not used. */
 typedef struct vr_sheet {
     uint64_t blocks;
     uint64_t trains;
     uint64_t free[VR_MOST_BLOCKS];
+    uint64_t first[VR_MOST_BLOCKS];
 } vr_sheet;
 
 /* Where a train's record stands in the file, and how many bytes it has. */
@@ -108,6 +111,12 @@ typedef struct vr_headway_answer {
     uint64_t number;
     uint64_t headway;
 } vr_headway_answer;
+
+typedef struct vr_period_answer {
+    uint64_t number;
+    uint64_t period;
+    uint64_t percent;
+} vr_period_answer;
 
 typedef struct vr_rows_answer {
     uint64_t number;
@@ -163,21 +172,30 @@ vr_hold_answer vr_hold(const uint8_t *file, size_t len, uint64_t k, uint32_t *sp
 vr_written vr_diagram(const uint8_t *file, size_t len, uint64_t k, uint8_t *bytes, size_t n);
 
 /* Opens a sheet of starts for a line with so many blocks.
- * Returns 0, or the number 12. Writes to the sheet this block count, no trains, and 0 for every free time; whatever it
- * held before. Trains added to an opened sheet never overlap in a block, and none could start sooner in that order. A
- * refusal leaves the sheet as it was. */
+ * Returns 0, or the number 12. Writes to the sheet this block count, no trains, and 0 for every free time and first
+ * beginning; whatever it held before. Trains added to an opened sheet never overlap in a block, and none could start
+ * sooner in that order. A refusal leaves the sheet as it was. */
 uint64_t vr_open(uint64_t blocks, vr_sheet *sheet);
 
 /* Adds a train to a sheet.
  * Returns the number 0, the least start, and the first block that binds it, counted from 1, or block 0 if the start is
  * 0; or the number of refusal by rules 12 to 14 with start 0 and block 0. Writes to the sheet that the train is there
- * and when each block is free again; places beyond the block count are kept. A refusal leaves the sheet as it was. */
+ * and when each block is free again, and of the first train its beginnings; places beyond the block count are kept. A
+ * refusal leaves the sheet as it was. */
 vr_added vr_add(vr_sheet *sheet, const vr_hold_record *hold);
 
 /* The headway of two trains: the second's start on a sheet of these two. The two pointers may be the same.
  * Returns the number 0 and the headway; or the first number of refusal met, by rules 12 to 14, and headway 0. Writes
  * nothing. */
 vr_headway_answer vr_headway(const vr_hold_record *first, const vr_hold_record *second);
+
+/* The period of a sheet: the shortest with which its trains can be repeated.
+ * Returns the number 0, the period, and its percentage of 3,600 s, rounded to the nearest, halves up; or the number 12
+ * with period 0 and percentage 0. The period is the greatest, over the blocks, of the free time less the first train's
+ * beginning; of a sheet without trains it is 0. If adding calls have led to this sheet from one freshly opened, and it
+ * has trains, then no two holds of one block overlap, however often it is repeated with this period; with one microsecond
+ * less some two would, from two repetitions on. Writes nothing. */
+vr_period_answer vr_period(const vr_sheet *sheet);
 
 /* The sheet of a whole file: all its trains, added in the file's order to a fresh sheet.
  * Returns the number 0 and the count of trains T; or the number of refusal by rules 1 to 9, then 11 where one of the

@@ -102,7 +102,18 @@ static void print_sheet(const vr_sheet *sheet)
 {
     printf(" %" PRIu64 " %" PRIu64, sheet->blocks, sheet->trains);
     print_numbers(sheet->free, PLACES);
+    print_numbers(sheet->first, PLACES);
     printf("\n");
+}
+
+/* The call may not alter the sheet. */
+static void ask_period(const vr_sheet *sheet)
+{
+    vr_sheet before = *sheet;
+    vr_period_answer answer = vr_period(sheet);
+    if (memcmp(&before, sheet, sizeof before) != 0)
+        exit(3);
+    printf("period %" PRIu64 " %" PRIu64 " %" PRIu64 "\n", answer.number, answer.period, answer.percent);
 }
 
 /* How many places the columns of the whole file get, and how many bytes its text: enough, or too few. */
@@ -200,10 +211,12 @@ static void ask_sheet(const vr_hold_record *hold)
     }
     printf("open %" PRIu64, number);
     print_sheet(sheet);
+    ask_period(sheet);
     for (int i = 0; i < 2; i++) {
         vr_added added = vr_add(sheet, hold);
         printf("add %" PRIu64 " %" PRIu64 " %" PRIu64, added.number, added.start, added.block);
         print_sheet(sheet);
+        ask_period(sheet);
     }
     vr_headway_answer headway = vr_headway(hold, hold);
     printf("headway %" PRIu64 " %" PRIu64 "\n", headway.number, headway.headway);

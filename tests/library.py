@@ -25,7 +25,7 @@ class HoldRecord(Structure):
 
 
 class Sheet(Structure):
-    _fields_ = [("blocks", c_uint64), ("trains", c_uint64), ("free", c_uint64 * PLACES)]
+    _fields_ = [("blocks", c_uint64), ("trains", c_uint64), ("free", c_uint64 * PLACES), ("first", c_uint64 * PLACES)]
 
 
 class RecordAnswer(Structure):
@@ -56,6 +56,10 @@ class HeadwayAnswer(Structure):
     _fields_ = [("number", c_uint64), ("headway", c_uint64)]
 
 
+class PeriodAnswer(Structure):
+    _fields_ = [("number", c_uint64), ("period", c_uint64), ("percent", c_uint64)]
+
+
 FILE = [POINTER(c_uint8), c_size_t]
 BUFFERS = [POINTER(c_uint32), c_size_t, POINTER(c_uint64), c_size_t]
 CALLS = {
@@ -68,6 +72,7 @@ CALLS = {
     "vr_open": (c_uint64, [c_uint64, POINTER(Sheet)]),
     "vr_add": (Added, [POINTER(Sheet), POINTER(HoldRecord)]),
     "vr_headway": (HeadwayAnswer, [POINTER(HoldRecord), POINTER(HoldRecord)]),
+    "vr_period": (PeriodAnswer, [POINTER(Sheet)]),
     "vr_rows": (RowsAnswer, FILE + 3 * [POINTER(c_uint64), c_size_t]),
     "vr_study": (Written, FILE + [POINTER(c_uint8), c_size_t]),
     "vr_diagram": (Written, FILE + [c_uint64, POINTER(c_uint8), c_size_t]),
@@ -202,6 +207,13 @@ class Library:
         answer = self.headway_in_c(first, second)
         untouched("hold record", (bytes(first), bytes(second)) == before)
         return answer.number, answer.headway
+
+    def period(self, sheet):
+        """The number, the period and the percentage."""
+        before = bytes(sheet)
+        answer = self.period_in_c(sheet)
+        untouched("sheet", bytes(sheet) == before)
+        return answer.number, answer.period, answer.percent
 
 
 class Lent:

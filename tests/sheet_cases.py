@@ -5,11 +5,12 @@ Writes crates/sheet_cases/stdin and crates/sheet_cases/stdout. The answers are t
 written apart from the code under test. The seed is fixed: every run writes the same bytes.
 
 The input is numbers of 8 bytes, low byte first. A call is its kind and then its arguments:
-    1 COUNT                  open
-    2 RECORD                 add to the sheet that the call before left
-    3 RECORD RECORD          headway
-    4 COUNT TRAINS PLACES    take a forged sheet instead
-    5                        print the whole sheet
+    1 COUNT                         open
+    2 RECORD                        add to the sheet that the call before left
+    3 RECORD RECORD                 headway
+    4 COUNT TRAINS PLACES PLACES    take a forged sheet instead, with these free times and first beginnings
+    5                               print the whole sheet
+    6                               period of the sheet
 RECORD is COUNT PLACES PLACES; PLACES is a value for all 32 places, how many of the first places differ from it, and these.
 """
 import random
@@ -19,13 +20,15 @@ import sys
 sys.dont_write_bytecode = True
 
 from packed import write_cases  # noqa: E402
-from yardstick import Hold, Refused, Sheet, add_call, headway_call, open_call  # noqa: E402
+from yardstick import Hold, Refused, Sheet, add_call, headway_call, hold_call, open_call, period_call  # noqa: E402
+from yardstick import sample_line, write_line  # noqa: E402
 
-OPEN, ADD, HEADWAY, FORGE, SHOW = 1, 2, 3, 4, 5
+OPEN, ADD, HEADWAY, FORGE, SHOW, PERIOD = 1, 2, 3, 4, 5, 6
 PLACES = 32
 LATEST = 2 ** 44
 TOP = 2 ** 64 - 1
 SECOND = 1_000_000
+PERCENT = 36 * SECOND
 WRONG_COUNTS = [0, 33, 34, 64, 255, 256, 2 ** 32, 2 ** 32 + 1, 2 ** 32 + 32, 2 ** 63, TOP]
 
 
@@ -59,7 +62,7 @@ class Calls:
             self.sheet = open_call(count)
             number = 0
         except Refused as refusal:
-            self.sheet = Sheet(0, 0, [0] * PLACES)
+            self.sheet = Sheet(0, 0, [0] * PLACES, [0] * PLACES)
             number = refusal.number
         self.lines.append("opened %d" % number)
         self.count("opened %d" % number)
@@ -75,6 +78,8 @@ class Calls:
             self.count(answer)
         self.lines.append("%s left %016x" % (answer, checksum(self.sheet)))
         self.count("adding calls")
+        if self.tally["adding calls"] % 3 == 0:
+            self.period()
         if self.tally["adding calls"] % 50 == 0:
             self.show()
 
@@ -89,22 +94,35 @@ class Calls:
             self.lines.append("no headway %d" % refusal.number)
             self.count("no headway %d" % refusal.number)
 
-    def forge(self, count, trains, free):
+    def period(self):
+        self.numbers.append(PERIOD)
+        try:
+            self.lines.append("period %d %d" % period_call(self.sheet))
+            self.count("period")
+        except Refused as refusal:
+            self.lines.append("no period %d" % refusal.number)
+            self.count("no period %d" % refusal.number)
+
+    def forge(self, count, trains, free, first):
         self.numbers += [FORGE, count, trains]
         self.places(free)
-        self.sheet = Sheet(count, trains, list(free))
+        self.places(first)
+        self.sheet = Sheet(count, trains, list(free), list(first))
         self.count("forged sheets")
 
     def show(self):
         self.numbers.append(SHOW)
-        values = [self.sheet.count, self.sheet.trains] + self.sheet.free
-        self.lines.append("sheet " + " ".join(str(value) for value in values))
+        self.lines.append("sheet " + " ".join(str(value) for value in sheet_numbers(self.sheet)))
         self.count("sheets shown")
 
 
+def sheet_numbers(sheet):
+    return [sheet.count, sheet.trains] + sheet.free + sheet.first
+
+
 def checksum(sheet):
-    total = sheet.count
-    for value in [sheet.trains] + sheet.free:
+    total = 0
+    for value in sheet_numbers(sheet):
         total = (((total << 7) | (total >> 57)) + value) & TOP
     return total
 
@@ -183,8 +201,10 @@ def mixed(rng, n, share):
 def every_count(calls, rng):
     for n in range(1, PLACES + 1):
         calls.open(n)
+        calls.period()
         for _ in range(52):
             calls.add(mixed(rng, n, 0.2))
+        calls.period()
         calls.show()
 
 
@@ -195,6 +215,7 @@ def seventy_in_a_row(calls, rng):
             calls.add(make(rng, n))
         for _ in range(6):
             calls.add(broken(rng, n))
+        calls.period()
         calls.show()
 
 
@@ -203,6 +224,7 @@ def beyond_full(calls, rng, counts, make):
         calls.open(n)
         for _ in range(66):
             calls.add(make(rng, n))
+        calls.period()
         calls.show()
 
 
@@ -228,40 +250,131 @@ def wrong_openings(calls, rng):
         calls.open(count)
         calls.add(any_hold(rng, rng.randrange(1, PLACES + 1)))
         calls.add(Hold(count, [0] * PLACES, [1] * PLACES))
+        calls.period()
         calls.show()
 
 
-def free_times(rng, n, trains):
+def sample(calls, rng):
+    data = write_line(sample_line())
+    calls.open(2)
+    for k in (0, 1):
+        calls.add(hold_call(data, k, [0] * 7, [0] * 7))
+    calls.period()
+    assert calls.lines[-1] == "period 114565952 3"
+
+
+# ---- forged sheets
+
+def tried(calls, rng, n, sheet, adds=3):
+    """A forged sheet: its period, a broken record, then sound ones, and the period that they leave."""
+    calls.forge(*sheet)
+    calls.period()
+    calls.add(broken(rng, n))
+    for _ in range(adds):
+        calls.add(any_hold(rng, n))
+    calls.period()
+
+
+def any_times(rng, n):
+    return beyond(rng, [rng.choice([0, TOP, rng.randrange(2 ** 64)]) for _ in range(n)])
+
+
+def sound_times(rng, n, trains):
+    """Free times and first beginnings that rule 12 lets pass, often just so."""
+    if trains == 0:
+        return beyond(rng, [0] * n), any_times(rng, n)
     most = trains * LATEST
-    return beyond(rng, [rng.choice([0, most, rng.randrange(most + 1)]) for _ in range(n)])
+    free = [rng.choice([1, most, rng.randrange(1, most + 1)]) for _ in range(n)]
+    first = [rng.choice([0, time - 1, rng.randrange(time)]) for time in free]
+    return beyond(rng, free), beyond(rng, first)
 
 
-def forged_sheets(calls, rng):
-    def tried(count, trains, free, n, adds=3):
-        calls.forge(count, trains, free)
-        for _ in range(adds):
-            calls.add(any_hold(rng, n))
-        calls.add(broken(rng, n))
-        calls.show()
+def some_blocks(rng, n):
+    return sorted({0, n - 1, rng.randrange(n)})
 
-    for count in WRONG_COUNTS:                                          # the block count
-        tried(count, rng.randrange(65), [rng.randrange(2 ** 44) for _ in range(PLACES)], rng.randrange(1, PLACES + 1))
-        tried(count, 1, [0] * PLACES, 1)
-    for trains in (65, 66, 127, 128, 2 ** 20, 2 ** 20 + 1, 2 ** 32, 2 ** 63, TOP):      # the number of trains
+
+def wrong_counts(calls, rng):
+    for count in WRONG_COUNTS:
+        free, first = sound_times(rng, PLACES, 1)
+        tried(calls, rng, rng.randrange(1, PLACES + 1), (count, rng.randrange(65), free, first))
+        tried(calls, rng, 1, (count, 1, [1] * PLACES, [0] * PLACES))
+        tried(calls, rng, 1, (count, 0, [0] * PLACES, [0] * PLACES))
+
+
+def wrong_trains(calls, rng):
+    for trains in (65, 66, 127, 128, 2 ** 20, 2 ** 20 + 1, 2 ** 32, 2 ** 63, TOP):
         n = rng.randrange(1, PLACES + 1)
-        tried(n, trains, [0] * PLACES, n)
-        tried(n, trains, [rng.randrange(2 ** 64) for _ in range(PLACES)], n)
-    for trains in (0, 1, 2, 63, 64):                                    # a free time
+        tried(calls, rng, n, (n, trains, [1] * PLACES, [0] * PLACES))
+        tried(calls, rng, n, (n, trains, any_times(rng, n), any_times(rng, n)))
+
+
+def wrong_free_times(calls, rng):
+    for trains in (0, 1, 2, 63, 64):
         for n in (1, 2, 17, 32):
-            for b in {0, n - 1, rng.randrange(n)}:
-                free = free_times(rng, n, trains)
+            for b in some_blocks(rng, n):
+                free, first = sound_times(rng, n, trains)
                 free[b] = rng.choice([trains * LATEST + 1, TOP, rng.randrange(trains * LATEST + 1, 2 ** 64)])
-                tried(n, trains, free, n)
-    for trains in (0, 1, 2, 33, 62, 63, 64):                            # none of the three
+                tried(calls, rng, n, (n, trains, free, first), 1)
+
+
+def wrong_beginnings(calls, rng):
+    """The greatest beginning that is below its free time, then those that are not: equal, above, and both 0."""
+    for trains in (1, 2, 33, 63, 64):
+        for n in (1, 2, 17, 32):
+            for b in some_blocks(rng, n):
+                free, first = sound_times(rng, n, trains)
+                for begin in (free[b] - 1, free[b], rng.choice([free[b] + 1, TOP, rng.randrange(free[b], 2 ** 64)])):
+                    first[b] = begin
+                    tried(calls, rng, n, (n, trains, free, first), 1)
+                free[b] = first[b] = 0
+                tried(calls, rng, n, (n, trains, free, first), 1)
+
+
+def sound_sheets(calls, rng):
+    """Anything stands beyond the count."""
+    for trains in (0, 1, 2, 33, 62, 63, 64):
         for n in (1, 2, 9, 31, 32):
-            tried(n, trains, free_times(rng, n, trains), n, 4)
-            free = [trains * LATEST] * n + [TOP] * (PLACES - n)
-            tried(n, trains, free, n, 4)
+            left = PLACES - n
+            most = trains * LATEST
+            tried(calls, rng, n, (n, trains, *sound_times(rng, n, trains)), 4)
+            tried(calls, rng, n, (n, trains, [most] * n + [TOP] * left, [max(1, most) - 1] * n + [0] * left), 4)
+            tried(calls, rng, n, (n, trains, [most] * n + [0] * left, [0] * n + [TOP] * left), 4)
+
+
+def without_trains(calls, rng):
+    """Kept beginnings that nothing judges; the first train that is added sets those within the count."""
+    for n in range(1, PLACES + 1):
+        for first in ([TOP] * PLACES, any_times(rng, n)):
+            tried(calls, rng, n, (n, 0, beyond(rng, [0] * n), first), 2)
+            calls.show()
+
+
+# ---- percentages
+
+def periods(rng):
+    """Periods about halves of a percentage and about whole ones, those named in the paper among them."""
+    named = [18 * SECOND, 3258 * SECOND, 3154 * SECOND, 3600 * SECOND]
+    most = 64 * LATEST // PERCENT
+    parts = [0, 1, 2, 3, 49, 50, 86, 87, 88, 89, 90, 91, 99, 100, 101, most - 1, most]
+    parts += [rng.randrange(200) for _ in range(20)] + [rng.randrange(2 ** rng.randrange(1, 25)) for _ in range(40)]
+    middles = named + [part * PERCENT + half for part in parts for half in (0, PERCENT // 2)]
+    around = {middle + off for middle in middles for off in (-1, 0, 1)}
+    chosen = {rng.randrange(1, 2 ** rng.randrange(1, 51)) for _ in range(60)}
+    return sorted(period for period in around | chosen | {64 * LATEST} if 1 <= period <= 64 * LATEST)
+
+
+def percentages(calls, rng):
+    """Through a sheet of one block: added to where one train has this period, and forged."""
+    for period in periods(rng):
+        trains = max(1, -(-period // LATEST))
+        if trains == 1:
+            begin = rng.choice([0, LATEST - period, rng.randrange(LATEST - period + 1)])
+            calls.open(1)
+            calls.add(Hold(1, [begin] * PLACES, [begin + period] * PLACES))
+            calls.period()
+        first = rng.choice([0, trains * LATEST - period])
+        calls.forge(1, trains, [first + period] * PLACES, [first] * PLACES)
+        calls.period()
 
 
 def headways(calls, rng):
@@ -279,10 +392,14 @@ def headways(calls, rng):
         calls.headway(Hold(count, [1] * PLACES, [1] * PLACES), Hold(count, [0] * PLACES, [1] * PLACES))
 
 
+PARTS = [every_count, seventy_in_a_row, latest_ends, ties, one_record_again, wrong_openings, sample, wrong_counts, wrong_trains,
+         wrong_free_times, wrong_beginnings, sound_sheets, without_trains, percentages, headways]
+
+
 def main():
     rng = random.Random(20240917)
     calls = Calls()
-    for part in (every_count, seventy_in_a_row, latest_ends, ties, one_record_again, wrong_openings, forged_sheets, headways):
+    for part in PARTS:
         part(calls, rng)
     packed = struct.pack("<%dQ" % len(calls.numbers), *calls.numbers)
     write_cases("sheet_cases", packed, calls.lines, calls.tally)

@@ -13,7 +13,7 @@ import calculator  # noqa: E402
 from calculator import HEADER_LINE, PROGRAM_BOUND, Hold, Line, Refused, Sheet, Train, number_of  # noqa: E402, F401
 from calculator import open_call, padded, sample_line  # noqa: E402, F401
 
-VERSION = 2                 # how many requests of document 02 are landed, from the first on
+VERSION = 3                 # how many requests of document 02 are landed, from the first on
 POINT_SIZE = 25             # bytes of a point in the diagram
 
 accepted_line = partial(calculator.accepted_line, version=VERSION)
@@ -24,6 +24,7 @@ diagram_call = partial(calculator.diagram_call, version=VERSION)
 headway_call = partial(calculator.headway_call, version=VERSION)
 hold_call = partial(calculator.hold_call, version=VERSION)
 parse = partial(calculator.parse, version=VERSION)
+period_call = partial(calculator.period_call, version=VERSION)
 program = partial(calculator.program, version=VERSION)
 record_call = partial(calculator.record_call, version=VERSION)
 write_line = partial(calculator.write_line, version=VERSION)

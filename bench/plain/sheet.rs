@@ -5,6 +5,8 @@ use crate::Refusal;
 pub const MOST_BLOCKS: usize = 32;
 const MOST_TRAINS: u64 = 64;
 const LATEST_END: u64 = 1 << 44;
+/// A hundredth of an hour in microseconds.
+const PERCENT: u64 = 36_000_000;
 
 #[repr(C)]
 #[derive(Clone, Copy, Default, PartialEq, Debug)]
@@ -20,6 +22,8 @@ pub struct Sheet {
     pub blocks: u64,
     pub trains: u64,
     pub free: [u64; MOST_BLOCKS],
+    /// The first train's beginnings.
+    pub first: [u64; MOST_BLOCKS],
 }
 
 impl Sheet {
@@ -32,6 +36,7 @@ impl Sheet {
         (1..=MOST_BLOCKS as u64).contains(&self.blocks)
             && self.trains <= MOST_TRAINS
             && self.free[..self.blocks as usize].iter().all(|&free| free <= self.trains * LATEST_END)
+            && (self.trains == 0 || (0..self.blocks as usize).all(|j| self.first[j] < self.free[j]))
     }
 
     fn takes(&self, hold: &HoldRecord) -> bool {
@@ -59,9 +64,24 @@ impl Sheet {
         }
         for j in 0..self.blocks as usize {
             self.free[j] = start + hold.ends[j];
+            if self.trains == 0 {
+                self.first[j] = hold.begins[j];
+            }
         }
         self.trains += 1;
         Ok((start, block))
+    }
+
+    /// The shortest period with which the trains are repeated, and its percentage of an hour to the nearest.
+    pub fn period(&self) -> Result<(u64, u64), Refusal> {
+        if !self.is_sound() {
+            return Err(12);
+        }
+        if self.trains == 0 {
+            return Ok((0, 0));
+        }
+        let period = (0..self.blocks as usize).map(|j| self.free[j] - self.first[j]).max().unwrap_or(0);
+        Ok((period, (period + PERCENT / 2) / PERCENT))
     }
 }
 

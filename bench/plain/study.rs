@@ -6,7 +6,7 @@ use crate::sheet::Sheet;
 use crate::Refusal;
 use std::fmt::Write;
 
-const MOST_POINTS: usize = 4096;
+pub const MOST_POINTS: usize = 4096;
 const MOST_TRAINS: usize = 64;
 
 #[derive(Default)]

@@ -1,23 +1,24 @@
--- The marked cases of document 01 over the definitions, as one table, a longer line beside it, what some roots leave, and the sample's
--- diagram. Each entry is proved by computation. Assumes nothing.
-use Prim.Native.Nat.{ℕ, _/_, _%_}
+-- The marked cases of document 01 over the definitions, as one table, a longer line beside it, what some roots leave, the sample's
+-- diagram, and its period with some percentages. Each entry is proved by computation. Assumes nothing.
+use Prim.Native.Nat.{ℕ, _+_, _-_, _*_, _/_, _%_}
 use mathlib.Core.List.{List, [], _∷_, _++_}
 use mathlib.Core.Path.{_≡_, refl}
 use lib.Ieee.{ofInt, toBits}
 use lib.ListN.{getD, take, replicate}
-use Rattle.rules.specs.Count.{_and_, rowFrom, every, within, greatestBelow, lowestFrom, firstBelow, lastBelow, ceilDiv}
+use Rattle.rules.specs.Count.{_and_, rowFrom, setBelow, every, within, greatestBelow, lowestFrom, firstBelow, lastBelow, ceilDiv}
 use Rattle.rules.specs.File.{word, words, recordAt}
 use Rattle.rules.specs.Line.{lineOf, trainAt, trainOf}
 use Rattle.rules.specs.Run.{squared, change, brakingLoss, trainCells, limitFrom, cellLimit, lastOr, lowestCovered, capSpeed, listed, capOf, cap}
 use Rattle.rules.specs.Run.{bandStep, bandsStep, tractionStep, forwardSweep, backwardBefore, backwardSweep, forward, runAt, runRow}
 use Rattle.rules.specs.Time.{nextDigit, rootDigits, leaving, root, cellTime, dwellFrom, dwell, arrival, departure, arrivals, runTimes}
 use Rattle.rules.specs.Hold.{Hold, approachPoint, holdBegin, holdEnd, holdWith, holdOf}
-use Rattle.rules.specs.Sheet.{fresh, leastStart, blockNamed, released, sheetAfter}
+use Rattle.rules.specs.Sheet.{fresh, leastStart, blockNamed, sheetAfter}
 use Rattle.rules.specs.Refusal.{firstBroken, refusal, whole, nothingAfter, lineSizes, trainSizes, limitPointsRule, limitsRule, blocksRule, bandsRule}
 use Rattle.rules.specs.Refusal.{stopsRule, lastBlockRule, decided, trainThere, buffersLong, sheetRule, holdRule}
 use Rattle.rules.specs.Calls.{fileRefusal, trainRefusal, trainRecord, runRefusal, held, accepted, added, opened, headwayOf, headway}
-use Rattle.rules.specs.Demand.{answers}
+use Rattle.rules.specs.Demand.{answers, leftBy}
 use Rattle.rules.specs.Diagram.{double, recordOf, diagramPoint, dot, diagramDot, lowFirst, doubleBytes, figuresBytes, pointBytes, diagramBytes}
+use Rattle.rules.specs.Period.{period, percentage, periodAnswer}
 use Rattle.rules.specs.Text.{digitsOf, decimal, field, header, trainLine, refusalText, joined, holdsFrom, fileAnswers, runningTime, lineOfTrain}
 use Rattle.rules.specs.Text.{sheetText, programText}
 
@@ -143,15 +144,29 @@ pub record Diagram : Type 0 where
       ++ ((0 ∷ 0 ∷ 0 ∷ 0 ∷ 0 ∷ 64 ∷ 127 ∷ 64 ∷ 0 ∷ 0 ∷ 0 ∷ 0 ∷ 0 ∷ 32 ∷ 172 ∷ 64 ∷ 0 ∷ 0 ∷ 0 ∷ 0 ∷ 253 ∷ 127 ∷ 135 ∷ 65 ∷ 1 ∷ [])
       ++ (0 ∷ 0 ∷ 0 ∷ 0 ∷ 0 ∷ 192 ∷ 130 ∷ 64 ∷ 0 ∷ 0 ∷ 0 ∷ 0 ∷ 0 ∷ 0 ∷ 0 ∷ 0 ∷ 0 ∷ 0 ∷ 0 ∷ 128 ∷ 178 ∷ 132 ∷ 144 ∷ 65 ∷ 1 ∷ []))))))
 
-pub tables : Marked × Middle × Diagram
-unfolding bytes sampleLine sampleTrain sampleWith sample middleLine middleTrain middle _and_ rowFrom every within greatestBelow lowestFrom firstBelow
+-- ---- document 02, request 03: the period of the sample's sheet, and percentages of an hour
+
+-- minutes and seconds in microseconds
+abbrev clock : ℕ → ℕ → ℕ
+clock minutes seconds = (60 * minutes + seconds) * 1000000
+
+pub record Pattern : Type 0 where
+  pub sample-period : periodAnswer (leftBy (fresh 2) (holdsFrom sample 0 2)) ≡ record { number = 0; period = 114565952; percent = 3 }
+  pub empty-period : periodAnswer (fresh 2) ≡ record { number = 0; period = 0; percent = 0 }
+  pub to-the-nearest : percentage (clock 52 34) ≡ 88
+  pub half-up : percentage (clock 54 18) ≡ 91
+  pub half-a-percent : percentage (clock 0 18) ≡ 1
+  pub below-a-half : percentage (clock 0 18 - 1) ≡ 0
+
+pub tables : Marked × Middle × Diagram × Pattern
+unfolding bytes sampleLine sampleTrain sampleWith sample middleLine middleTrain middle _and_ rowFrom setBelow every within greatestBelow lowestFrom firstBelow
     lastBelow ceilDiv word words recordAt lineOf trainAt squared change brakingLoss trainCells limitFrom cellLimit lastOr lowestCovered capSpeed listed
     capOf cap bandStep bandsStep tractionStep forwardSweep backwardBefore backwardSweep forward runAt runRow nextDigit rootDigits leaving root cellTime
-    dwellFrom dwell arrival departure arrivals approachPoint holdBegin holdEnd holdWith fresh leastStart blockNamed released sheetAfter firstBroken refusal whole
+    dwellFrom dwell arrival departure arrivals approachPoint holdBegin holdEnd holdWith fresh leastStart blockNamed sheetAfter firstBroken refusal whole
     nothingAfter lineSizes trainSizes limitPointsRule limitsRule blocksRule bandsRule stopsRule lastBlockRule decided trainThere buffersLong sheetRule holdRule
-    fileRefusal trainRefusal trainRecord runRefusal held added opened headway answers digitsOf decimal field header trainLine refusalText joined holdsFrom
-    fileAnswers runningTime lineOfTrain sheetText programText double recordOf diagramPoint dot diagramDot lowFirst doubleBytes
-    figuresBytes pointBytes diagramBytes ofInt toBits
+    fileRefusal trainRefusal trainRecord runRefusal held added opened headway answers leftBy digitsOf decimal field header trainLine refusalText joined
+    holdsFrom fileAnswers runningTime lineOfTrain sheetText programText double recordOf diagramPoint dot diagramDot lowFirst doubleBytes
+    figuresBytes pointBytes diagramBytes ofInt toBits period percentage periodAnswer
 tables = (
   record {
     m1 = refl;
@@ -190,4 +205,12 @@ tables = (
     text = refl;
   },
   record { left-zero = refl; left-most = refl; left-none = refl; left-one = refl; left-some = refl; sample-bytes = refl },
+  record {
+    sample-period = refl;
+    empty-period = refl;
+    to-the-nearest = refl;
+    half-up = refl;
+    half-a-percent = refl;
+    below-a-half = refl;
+  },
 )

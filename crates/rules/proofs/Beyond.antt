@@ -1,5 +1,5 @@
 -- An addition neither reads nor alters a place beyond the block count. Assumes nothing.
-use Prim.Native.Nat.{ℕ, zero, suc, _+_, _-_, _*_, _^_, _≤_, _<_}
+use Prim.Native.Nat.{ℕ, suc, _+_, _-_, _*_, _^_, _≤_, _<_}
 use mathlib.Core.Bool.{cond}
 use mathlib.Core.List.{List, [], _∷_}
 use mathlib.Core.Option.{Option, none, some}
@@ -9,23 +9,30 @@ use lib.Dec.{leb, ltb, eqb}
 use lib.ListN.{length, getD}
 use Rattle.rules.specs.Count.{countedFrom1}
 use Rattle.rules.specs.Hold.{Hold, emptyHold}
-use Rattle.rules.specs.Sheet.{Sheet, end, freeTime, leastStart, blockNamed, released, sheetAfter}
+use Rattle.rules.specs.Sheet.{Sheet, begin, end, freeTime, firstBegin, leastStart, blockNamed, sheetAfter}
 use Rattle.rules.specs.Refusal.{firstBroken, sheetRule, holdRule, addingRules}
 use Rattle.rules.specs.Calls.{accepted, addition, added}
 use Rattle.rules.specs.Demand.{SameWithin, answers, leftBy}
-use Rattle.rules.proofs.Count.{every-agree, greatest-agree, first-agree}
+use Rattle.rules.proofs.Count.{set-below-agree, every-agree, greatest-agree, first-agree}
 use Rattle.rules.proofs.Sheet.{after-is, either-way}
 
--- two sheets with the same counts and the same free times within the block count
+-- two sheets with the same counts, and the same free times and first train's beginnings within the block count
 pub record SameSheet (s s′ : Sheet) : Type 0 where
   pub blocks : s .blocks ≡ s′ .blocks
   pub trains : s .trains ≡ s′ .trains
   pub free : (b : ℕ) → b < s .blocks → freeTime s b ≡ freeTime s′ b
+  pub first : (b : ℕ) → b < s .blocks → firstBegin s b ≡ firstBegin s′ b
 
 module _ (s s′ : Sheet) (h h′ : Hold) (of : SameSheet s s′) (same : SameWithin (s .blocks) h h′) where
   same-12 : sheetRule s ≡ sheetRule s′
   unfolding sheetRule
-  same-12 = rw (← of .blocks, ← of .trains, every-agree _ _ (s .blocks) (λ b l. ap (λ x. leb x (s .trains * 2 ^ 44)) (of .free b l)))
+  same-12 =
+      rw (
+        ← of .blocks,
+        ← of .trains,
+        every-agree _ _ (s .blocks) (λ b l. ap (λ x. leb x (s .trains * 2 ^ 44)) (of .free b l)),
+        every-agree _ _ (s .blocks) (λ b l. ap₂ ltb (of .first b l) (of .free b l)),
+      )
 
   same-14 : holdRule (s .blocks) h ≡ holdRule (s′ .blocks) h′
   unfolding holdRule
@@ -59,15 +66,9 @@ module _ (s s′ : Sheet) (h h′ : Hold) (of : SameSheet s s′) (same : SameWi
       go none = rw same-start (ap (accepted (leastStart s′ h′)) (same-block (leastStart s′ h′)))
       go (some n) = refl
 
--- an answer does not depend on free times beyond the block count
+-- an answer does not depend on what the sheet holds beyond the block count
 pub unread-sheet : (s s′ : Sheet) → SameSheet s s′ → (h : Hold) → added s h .answer ≡ added s′ h .answer
 unread-sheet s s′ of h = unread s s′ h h of (record { count = refl; begins = λ b l. refl; ends = λ b l. refl })
-
-released-agree :
-    (n : ℕ) (h h′ : Hold) (start : ℕ) (free : List ℕ) → ((b : ℕ) → b < n → end h b ≡ end h′ b) → released n h start free ≡ released n h′ start free
-unfolding released
-released-agree zero h h′ start free e = refl
-released-agree (suc n) h h′ start free e = rw (released-agree n h h′ start free (λ b l. e b (omega arith)), e n (omega arith))
 
 -- nor does the addition depend on what the record holds there
 pub unread-one : (s : Sheet) (h h′ : Hold) → SameWithin (s .blocks) h h′ → added s h ≡ added s h′
@@ -75,14 +76,16 @@ unfolding added sheetAfter
 unread-one s h h′ same = rw (same-rules s s h h′ of same) (go (firstBroken (addingRules s h′)))
   where
     of : SameSheet s s
-    of = record { blocks = refl; trains = refl; free = λ b l. refl }
+    of = record { blocks = refl; trains = refl; free = λ b l. refl; first = λ b l. refl }
 
     go : (o : Option ℕ) → addition s h o ≡ addition s h′ o
     go none =
         rw (
           same-start s s h h′ of same,
           same-block s s h h′ of same (leastStart s h′),
-          released-agree (s .blocks) h h′ (leastStart s h′) (s .free) (same .ends),
+          set-below-agree (λ b. leastStart s h′ + end h b) (λ b. leastStart s h′ + end h′ b) (s .blocks) (s .free)
+              (λ b l. ap (λ x. leastStart s h′ + x) (same .ends b l)),
+          set-below-agree (λ b. begin h b) (λ b. begin h′ b) (s .blocks) (s .first) (same .begins),
         )
     go (some n) = refl
 
@@ -90,11 +93,19 @@ pub blocks-added : (s : Sheet) (h : Hold) → added s h .sheet .blocks ≡ s .bl
 unfolding sheetAfter
 blocks-added s h = either-way (λ a. a .sheet .blocks ≡ s .blocks) s h (λ e. refl) (λ n e. refl)
 
-pub unaltered-one : (s : Sheet) (h : Hold) (b : ℕ) → s .blocks ≤ b → freeTime (added s h .sheet) b ≡ freeTime s b
-unaltered-one s h b l =
-    either-way (λ a. freeTime (a .sheet) b ≡ freeTime s b) s h (λ e. after-is s h (leastStart s h) .beyond b l) (λ n e. refl)
+-- two sheets hold the same at place b
+abbrev SameAt : ℕ → Sheet → Sheet → Type 0
+SameAt b s s′ = (freeTime s b ≡ freeTime s′ b) × (firstBegin s b ≡ firstBegin s′ b)
+
+unaltered-one : (s : Sheet) (h : Hold) (b : ℕ) → s .blocks ≤ b → SameAt b (added s h .sheet) s
+unaltered-one s h b l = either-way (λ a. SameAt b (a .sheet) s) s h (λ e. after-is s h (leastStart s h) .beyond b l) (λ n e. (refl, refl))
 
 -- ---- a list of additions
+
+pub blocks-left : (s : Sheet) (calls : List Hold) → leftBy s calls .blocks ≡ s .blocks
+unfolding leftBy
+blocks-left s [] = refl
+blocks-left s (h ∷ calls) = blocks-left (added s h .sheet) calls ∙ blocks-added s h
 
 pub unread-list :
     (s : Sheet) (calls others : List Hold) → length others ≡ length calls →
@@ -109,7 +120,10 @@ unread-list s (h ∷ calls) (h′ ∷ others) q same =
     let r = unread-list (added s h .sheet) calls others (omega arith) (λ i l. rw (blocks-added s h) (same (suc i) (omega arith))) in
     rw (← e) (ap (λ got. added s h .answer ∷ got) (r .0), r .1)
 
-pub unaltered-list : (s : Sheet) (calls : List Hold) (b : ℕ) → s .blocks ≤ b → freeTime (leftBy s calls) b ≡ freeTime s b
+pub unaltered-list : (s : Sheet) (calls : List Hold) (b : ℕ) → s .blocks ≤ b → SameAt b (leftBy s calls) s
 unfolding leftBy
-unaltered-list s [] b l = refl
-unaltered-list s (h ∷ calls) b l = unaltered-list (added s h .sheet) calls b (rw (blocks-added s h) l) ∙ unaltered-one s h b l
+unaltered-list s [] b l = (refl, refl)
+unaltered-list s (h ∷ calls) b l =
+    let later = unaltered-list (added s h .sheet) calls b (rw (blocks-added s h) l) in
+    let one = unaltered-one s h b l in
+    (later .0 ∙ one .0, later .1 ∙ one .1)

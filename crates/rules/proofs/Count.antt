@@ -2,6 +2,7 @@
 use Prim.Native.Nat.{ℕ, zero, suc, _+_, _-_, _*_, _/_, _≤_, _<_, min, max}
 use mathlib.Core.Bool.{Bool, true, false, false≢true}
 use mathlib.Core.Logic.{_⊎_, inl, inr, ⊎-elim}
+use mathlib.Core.List.{List}
 use mathlib.Core.Option.{none, some}
 use mathlib.Core.Path.{_≡_, refl, sym, subst, ap, ap₂, _∙_}
 use native.Mathlib.Decide.{decLe}
@@ -9,15 +10,45 @@ use native.Mathlib.Nat.{le-refl, le-trans, le-suc-iff, le-of-suc-le-suc, eq-or-l
 use native.Mathlib.Nat.{lt-div-mul-add, div-lt-iff-lt-mul, suc-mul, mul-le-mul-left}
 use native.Mathlib.Omega.{arith}
 use lib.Dec.{leb}
-use lib.ListN.{length}
+use lib.ListN.{length, set, length-set}
+use lib.Seq.{getD-set-same, getD-set-other}
 use borrow.Author.Tests.{leb-true, le-leb}
-use Rattle.rules.specs.Count.{_and_, entry, rowFrom, row, every, within, allWithin, belowBy, risesBy, greatestBelow, lowestFrom, orZero}
-use Rattle.rules.specs.Count.{ifPasses, orElse, firstBelow, lastBelow, ceilDiv}
+use Rattle.rules.specs.Count.{_and_, entry, rowFrom, row, setBelow, every, within, allWithin, belowBy, risesBy, greatestBelow, lowestFrom}
+use Rattle.rules.specs.Count.{orZero, ifPasses, orElse, firstBelow, lastBelow, ceilDiv}
 use Rattle.rules.specs.Meaning.{IsRoundedUp}
 
 -- what holds of each number below n, and of n, holds of each below n + 1
 pub below-suc : (P : ℕ → Type 0) (n : ℕ) → ((i : ℕ) → i < n → P i) → P n → (i : ℕ) → i < suc n → P i
 below-suc P n all here i l = ⊎-elim (λ e. subst P (sym e) here) (λ lt. all i lt) (eq-or-lt-of-le (le-of-suc-le-suc l))
+
+-- ---- the first entries of a list set
+
+module _ (f : ℕ → ℕ) (list : List ℕ) where
+  pub length-set-below : (n : ℕ) → length (setBelow n f list) ≡ length list
+  unfolding setBelow
+  length-set-below zero = refl
+  length-set-below (suc n) = length-set (setBelow n f list) n (f n) ∙ length-set-below n
+
+  pub set-below-at : (n i : ℕ) → i < n → i < length list → entry (setBelow n f list) i ≡ f i
+  unfolding setBelow
+  set-below-at zero i l m = absurd (omega arith)
+  set-below-at (suc n) i l m =
+      below-suc (λ i. i < length list → entry (set (setBelow n f list) n (f n)) i ≡ f i) n
+      (λ i l m. getD-set-other (setBelow n f list) n i (f n) 0 (omega arith) ∙ set-below-at n i l m)
+      (λ m. getD-set-same (setBelow n f list) n (f n) 0 (omega (arith, length-set-below n)))
+      i
+      l
+      m
+
+  pub set-below-beyond : (n i : ℕ) → n ≤ i → entry (setBelow n f list) i ≡ entry list i
+  unfolding setBelow
+  set-below-beyond zero i l = refl
+  set-below-beyond (suc n) i l = getD-set-other (setBelow n f list) n i (f n) 0 (omega arith) ∙ set-below-beyond n i (omega arith)
+
+pub set-below-agree : (f g : ℕ → ℕ) (n : ℕ) (list : List ℕ) → ((i : ℕ) → i < n → f i ≡ g i) → setBelow n f list ≡ setBelow n g list
+unfolding setBelow
+set-below-agree f g zero list h = refl
+set-below-agree f g (suc n) list h = rw (set-below-agree f g n list (λ i l. h i (omega arith)), h n (omega arith))
 
 -- ---- tests
 

@@ -9,13 +9,13 @@ use native.Mathlib.Omega.{arith}
 use lib.ListN.{length, getD, take}
 use Rattle.rules.specs.Count.{entry}
 use Rattle.rules.specs.Hold.{Hold, emptyHold}
-use Rattle.rules.specs.Sheet.{Sheet, begin, end, freeTime, fresh, leastStart, blockNamed, sheetAfter}
+use Rattle.rules.specs.Sheet.{Sheet, begin, end, fresh, leastStart, blockNamed, sheetAfter}
 use Rattle.rules.specs.Refusal.{rule, firstBroken, countRule, roomRule, holdRule, addingRules}
 use Rattle.rules.specs.Calls.{Opening, Answer, accepted, refused, added, opened}
 use Rattle.rules.specs.Demand.{answers, leftBy, starts, trains, refusalOf, WithoutOverlap, ThirdDemand}
 use Rattle.rules.specs.Meaning.{Clears}
 use Rattle.rules.proofs.Count.{within-means}
-use Rattle.rules.proofs.Sheet.{rule-12, start-is, after-is, either-way, all-kept, Sound, sound-added, fresh-free, sound-fresh}
+use Rattle.rules.proofs.Sheet.{rule-12, start-is, either-way, all-kept, Sound, freed, sound-added, fresh-free, sound-fresh}
 use Rattle.rules.proofs.Numbers.{judges-hold}
 use Rattle.rules.proofs.Beyond.{unread-list, unaltered-list}
 
@@ -27,7 +27,7 @@ judged-adding : (s : Sheet) → Sound s → (h : Hold) → firstBroken (addingRu
 unfolding firstBroken
 judged-adding s ok h = rw (rule-12 s .1 (ok .keeps))
 
-sound-left : (s : Sheet) → Sound s → (calls : List Hold) → Sound (leftBy s calls)
+pub sound-left : (s : Sheet) → Sound s → (calls : List Hold) → Sound (leftBy s calls)
 unfolding leftBy
 sound-left s ok [] = ok
 sound-left s ok (h ∷ calls) = sound-left (added s h .sheet) (sound-added s ok h) calls
@@ -85,10 +85,6 @@ module _ (s : Sheet) (ok : Sound s) (h : Hold) (calls : List Hold) (got : List A
   abbrev start : ℕ
   start = leastStart s h
 
-  -- the free times left
-  freed : (b : ℕ) → b < s .blocks → freeTime (sheetAfter s h start) b ≡ start + end h b
-  freed b l = after-is s h start .within b l (omega (arith, ok .places))
-
   accepted-numbers : NumbersFrom s (h ∷ calls) (accepted start block ∷ got)
   unfolding starts sheetAfter
   accepted-numbers zero l = rw add-zero (sym e ∙ judged-adding s ok h)
@@ -98,7 +94,7 @@ module _ (s : Sheet) (ok : Sound s) (h : Hold) (calls : List Hold) (got : List A
 
   later : (j b : ℕ) → j < length (trains calls got) → b < s .blocks → start + end h b ≤ entry (starts got) j + begin (getD (trains calls got) j emptyHold) b
   unfolding sheetAfter
-  later j b l k = omega (arith, freed b k, r .clear j l b k)
+  later j b l k = omega (arith, freed s ok h b k, r .clear j l b k)
 
   accepted-clear : AllClear s (h ∷ trains calls got) (start ∷ starts got)
   accepted-clear zero l = start-is s h .clears
@@ -116,7 +112,7 @@ module _ (s : Sheet) (ok : Sound s) (h : Hold) (calls : List Hold) (got : List A
   accepted-least (x ∷ xs) q c w zero l = start-is s h .least x (c 0 (omega arith))
   accepted-least (x ∷ xs) q c w (suc k) l =
       let first : start ≤ x = start-is s h .least x (c 0 (omega arith)) in
-      r .least xs (omega arith) (λ j m b o. omega (arith, freed b o, w 0 (suc j) b (omega arith) (omega arith) o))
+      r .least xs (omega arith) (λ j m b o. omega (arith, freed s ok h b o, w 0 (suc j) b (omega arith) (omega arith) o))
       (λ i j b i-j m o. w (suc i) (suc j) b (omega arith) (omega arith) o)
       k
       (le-of-suc-le-suc l)

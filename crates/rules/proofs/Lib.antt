@@ -17,6 +17,7 @@ pub mod Sheet
 pub mod Numbers
 pub mod Beyond
 pub mod Demand
+pub mod Left
 pub mod Headway
 pub mod Decimal
 pub mod Text
@@ -25,3 +26,4 @@ pub mod Lengths
 pub mod Answers
 pub mod Room
 pub mod Diagram
+pub mod Period

@@ -1,20 +1,28 @@
--- Tests and rows one number more, as loops go through them. Assumes nothing.
+-- Tests, rows and the entries of a list one number more, as loops go through them. Assumes nothing.
 use Prim.Native.Nat.{ℕ, zero, suc, _+_, _-_, _≤_, _<_, max}
 use mathlib.Core.Bool.{Bool, true, false}
 use mathlib.Core.Logic.{⊎-elim}
-use mathlib.Core.Path.{_≡_, refl, sym, ap, ap₂, _∙_}
+use mathlib.Core.List.{List}
+use mathlib.Core.Path.{_≡_, refl, sym, subst, ap, ap₂, _∙_}
 use native.Mathlib.Nat.{le-antisymm, le-of-suc-le-suc, eq-or-lt-of-le}
 use native.Mathlib.Numerals.{add-one}
 use native.Mathlib.Omega.{arith}
 use lib.Dec.{leb}
-use lib.ListN.{length}
+use lib.ListN.{length, set}
 use borrow.Author.Tests.{le-leb, lt-leb}
-use Rattle.rules.specs.Count.{_and_, entry, rowFrom, row, greatestBelow, every, within, allWithin, belowBy, risesBy}
-use Rattle.rules.proofs.Count.{and-false, every-agree, length-row, entry-row}
+use Rattle.rules.specs.Count.{_and_, entry, rowFrom, row, setBelow, greatestBelow, every, within, allWithin, belowBy, risesBy}
+use Rattle.rules.proofs.Count.{NonePasses, and-false, every-agree, length-row, entry-row}
 
 -- two tests that the code holds as x and y
 pub and-of : {r x y a b : Bool} → r ≡ (x and y) → x ≡ a → y ≡ b → r ≡ (a and b)
 and-of e f g = e ∙ ap₂ _and_ f g
+
+-- what holds of the counter at the loop's end holds of the count
+at-end : (P : ℕ → Type 0) {i n : ℕ} → i ≤ n → n ≤ i → P i → P n
+at-end P l m h = subst P (le-antisymm l m) h
+
+pub none-done : (test : ℕ → Bool) {i n : ℕ} → i ≤ n → n ≤ i → NonePasses i test → NonePasses n test
+none-done test l m h = at-end (λ k. NonePasses k test) l m h
 
 -- ---- every
 
@@ -36,7 +44,7 @@ module _ (test : ℕ → Bool) where
 
   -- a loop that has come to the end has tried every number
   pub every-done : {i n : ℕ} → i ≤ n → n ≤ i → every i test ≡ true → every n test ≡ true
-  every-done {i} {n} l m all = ap (λ (k : ℕ). every k test) (le-antisymm m l) ∙ all
+  every-done l m all = at-end (λ k. every k test ≡ true) l m all
 
 -- ---- the greatest
 
@@ -48,6 +56,23 @@ module _ (f : ℕ → ℕ) where
   pub greatest-more : (i : ℕ) {m w r : ℕ} → m ≡ greatestBelow i f → w ≡ f i → r ≡ max m w → r ≡ greatestBelow (i + 1) f
   unfolding greatestBelow
   greatest-more i e g h = rw add-one (h ∙ ap₂ max e g)
+
+  pub greatest-done : {g i n : ℕ} → i ≤ n → n ≤ i → g ≡ greatestBelow i f → g ≡ greatestBelow n f
+  greatest-done {g} l m e = at-end (λ k. g ≡ greatestBelow k f) l m e
+
+-- ---- the first entries of a list set
+
+module _ (f : ℕ → ℕ) (list : List ℕ) where
+  pub set-none : list ≡ setBelow 0 f list
+  unfolding setBelow
+  set-none = refl
+
+  pub set-next : (i : ℕ) {t : ℕ} {l : List ℕ} → l ≡ setBelow i f list → t ≡ f i → set l i t ≡ setBelow (i + 1) f list
+  unfolding setBelow
+  set-next i e g = rw (add-one, e, g)
+
+  pub set-done : {l : List ℕ} {i n : ℕ} → i ≤ n → n ≤ i → l ≡ setBelow i f list → l ≡ setBelow n f list
+  set-done {l} p q e = at-end (λ k. l ≡ setBelow k f list) p q e
 
 -- ---- rows
 

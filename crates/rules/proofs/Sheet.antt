@@ -1,27 +1,39 @@
 -- One addition to a sheet: what rules 12 to 14, the least start, the block named and the sheet after mean. Assumes nothing.
-use Prim.Native.Nat.{ℕ, zero, suc, _+_, _-_, _*_, _^_, _≤_, _<_}
-use mathlib.Core.Bool.{Bool, true, false}
+use Prim.Native.Nat.{ℕ, _+_, _-_, _*_, _^_, _≤_, _<_}
+use mathlib.Core.Bool.{Bool, true, false, cond}
 use mathlib.Core.List.{List, [], _∷_}
 use mathlib.Core.Logic.{_↔_, ⊎-elim}
 use mathlib.Core.Option.{Option, none, some}
-use mathlib.Core.Path.{_≡_, refl, _∙_}
+use mathlib.Core.Path.{_≡_, refl, ap}
+use native.Mathlib.Nat.{eq-zero-or-pos}
 use native.Mathlib.Numerals.{add-one}
 use native.Mathlib.Omega.{arith}
-use lib.Dec.{eqb}
-use lib.ListN.{length, set, length-set, getD-replicate}
-use lib.Seq.{getD-set-same, getD-set-other}
+use lib.Dec.{eqb, ltb}
+use lib.ListN.{length, getD-replicate}
 use borrow.Author.Tests.{leb-true, le-leb, ltb-true, lt-ltb, eqb-true, eq-eqb, eqb-false, ne-eqb, not-true}
-use Rattle.rules.specs.Count.{entry}
+use Rattle.rules.specs.Count.{entry, every, setBelow}
 use Rattle.rules.specs.Hold.{Hold}
-use Rattle.rules.specs.Sheet.{Sheet, begin, end, freeTime, fresh, leastStart, blockNamed, released, sheetAfter}
+use Rattle.rules.specs.Sheet.{Sheet, begin, end, freeTime, firstBegin, fresh, leastStart, blockNamed, sheetAfter}
 use Rattle.rules.specs.Refusal.{rule, firstBroken, sheetRule, roomRule, holdRule, addingRules}
 use Rattle.rules.specs.Calls.{Addition, refused, accept, refuse, added}
 use Rattle.rules.specs.Admitted.{Rule12, Rule14}
 use Rattle.rules.specs.Meaning.{Binds, IsLeastStart, IsBlockNamed, IsSheetAfter}
-use Rattle.rules.proofs.Count.{NonePasses, FirstPasses, below-suc, and-left, and-right, and-both, every-at, every-all, within-means}
-use Rattle.rules.proofs.Count.{within-holds, at-most-greatest, greatest-at-most, greatest-attained, first-found, find-first}
+use Rattle.rules.proofs.Count.{NonePasses, FirstPasses, length-set-below, set-below-at, set-below-beyond, and-left, and-right}
+use Rattle.rules.proofs.Count.{and-both, every-at, every-all, within-means, within-holds, at-most-greatest, greatest-at-most}
+use Rattle.rules.proofs.Count.{greatest-attained, first-found, find-first}
 
 -- ---- rules
+
+-- the first train's beginnings are judged on a sheet with trains alone
+firsts : (s : Sheet) → (cond (eqb (s .trains) 0) true (every (s .blocks) (λ b. ltb (firstBegin s b) (freeTime s b))) ≡ true)
+    ↔ (1 ≤ s .trains → (b : ℕ) → b < s .blocks → firstBegin s b < freeTime s b)
+firsts s = (
+  λ e m b l. ltb-true (firstBegin s b) (freeTime s b) (every-at _ (s .blocks) (rw (ne-eqb (s .trains) 0 (λ z. omega arith)) at e) b l),
+  λ h.
+      ⊎-elim (λ z. rw z)
+      (λ m. rw (ne-eqb (s .trains) 0 (λ z. omega arith)) (every-all _ (s .blocks) (λ b l. lt-ltb (firstBegin s b) (freeTime s b) (h m b l))))
+      (eq-zero-or-pos (s .trains)),
+)
 
 pub rule-12 : (s : Sheet) → (sheetRule s ≡ true) ↔ Rule12 s
 unfolding sheetRule
@@ -31,11 +43,14 @@ rule-12 s = (
         blocks-least = within-means 1 32 (s .blocks) (and-left _ _ e) .0;
         blocks-most = within-means 1 32 (s .blocks) (and-left _ _ e) .1;
         trains-most = leb-true (s .trains) 64 (and-left _ _ (and-right _ _ e));
-        free-most = λ b l. leb-true (freeTime s b) (s .trains * 2 ^ 44) (every-at _ (s .blocks) (and-right _ _ (and-right _ _ e)) b l);
+        free-most = λ b l.
+            leb-true (freeTime s b) (s .trains * 2 ^ 44) (every-at _ (s .blocks) (and-left _ _ (and-right _ _ (and-right _ _ e))) b l);
+        first-below = firsts s .0 (and-right _ _ (and-right _ _ (and-right _ _ e)));
       },
   λ r.
       and-both (within-holds 1 32 (s .blocks) (r .blocks-least) (r .blocks-most))
-      (and-both (le-leb (s .trains) 64 (r .trains-most)) (every-all _ (s .blocks) (λ b l. le-leb (freeTime s b) (s .trains * 2 ^ 44) (r .free-most b l)))),
+      (and-both (le-leb (s .trains) 64 (r .trains-most))
+      (and-both (every-all _ (s .blocks) (λ b l. le-leb (freeTime s b) (s .trains * 2 ^ 44) (r .free-most b l))) (firsts s .1 (r .first-below)))),
 )
 
 pub rule-13 : (trains : ℕ) → (roomRule trains ≡ true) ↔ (trains ≡ 64 → ⊥)
@@ -90,27 +105,20 @@ block-is s h =
 
 -- ---- the sheet after
 
-pub length-released : (n : ℕ) (h : Hold) (start : ℕ) (free : List ℕ) → length (released n h start free) ≡ length free
-unfolding released
-length-released zero h start free = refl
-length-released (suc n) h start free = simp (length-set, length-released n h start free)
+-- the first train's beginnings after an addition
+first-set : (s : Sheet) (h : Hold) (start : ℕ) → s .trains ≡ 0 → sheetAfter s h start .first ≡ setBelow (s .blocks) (λ b. begin h b) (s .first)
+unfolding sheetAfter
+first-set s h start z = rw z
 
-pub released-at : (n : ℕ) (h : Hold) (start : ℕ) (free : List ℕ) (b : ℕ) → b < n → b < length free → entry (released n h start free) b ≡ start + end h b
-unfolding released
-released-at zero h start free b l m = absurd (omega arith)
-released-at (suc n) h start free b l m =
-    below-suc (λ b. b < length free → entry (set (released n h start free) n (start + end h n)) b ≡ start + end h b) n
-    (λ b l m. getD-set-other (released n h start free) n b (start + end h n) 0 (omega arith) ∙ released-at n h start free b l m)
-    (λ m. getD-set-same (released n h start free) n (start + end h n) 0 (omega (arith, length-released n h start free)))
-    b
-    l
-    m
+first-kept : (s : Sheet) (h : Hold) (start : ℕ) → 1 ≤ s .trains → sheetAfter s h start .first ≡ s .first
+unfolding sheetAfter
+first-kept s h start m = rw (ne-eqb (s .trains) 0 (λ z. omega arith))
 
-pub released-beyond : (n : ℕ) (h : Hold) (start : ℕ) (free : List ℕ) (b : ℕ) → n ≤ b → entry (released n h start free) b ≡ entry free b
-unfolding released
-released-beyond zero h start free b l = refl
-released-beyond (suc n) h start free b l =
-    getD-set-other (released n h start free) n b (start + end h n) 0 (omega arith) ∙ released-beyond n h start free b (omega arith)
+-- what holds of them set and kept holds of them
+first-after : (P : List ℕ → Type 0) (s : Sheet) (h : Hold) (start : ℕ) → P (setBelow (s .blocks) (λ b. begin h b) (s .first)) → P (s .first) →
+    P (sheetAfter s h start .first)
+first-after P s h start set kept =
+    ⊎-elim (λ z. rw (first-set s h start z) set) (λ m. rw (first-kept s h start m) kept) (eq-zero-or-pos (s .trains))
 
 pub after-is : (s : Sheet) (h : Hold) (start : ℕ) → IsSheetAfter s h start (sheetAfter s h start)
 unfolding sheetAfter
@@ -118,24 +126,15 @@ after-is s h start =
     record {
       blocks = refl;
       trains = refl;
-      within = released-at (s .blocks) h start (s .free);
-      beyond = released-beyond (s .blocks) h start (s .free);
-      places = length-released (s .blocks) h start (s .free);
-    }
-
--- an addition keeps rule 12
-pub rule-12-after :
-    (s : Sheet) (h : Hold) → Rule12 s → s .blocks ≤ length (s .free) → roomRule (s .trains) ≡ true → Rule14 (s .blocks) h →
-    Rule12 (sheetAfter s h (leastStart s h))
-unfolding sheetAfter
-rule-12-after s h r m e f =
-    let ne : s .trains ≡ 64 → ⊥ = rule-13 (s .trains) .0 e in
-    record {
-      blocks-least = r .blocks-least;
-      blocks-most = r .blocks-most;
-      trains-most = omega arith;
-      free-most = λ b l.
-          omega (arith, released-at (s .blocks) h (leastStart s h) (s .free) b l (omega arith), f .end-most b l, start-most s r h);
+      free-within = set-below-at (λ b. start + end h b) (s .free) (s .blocks);
+      first-addition = λ z b l m. rw (first-set s h start z) (set-below-at (λ b. begin h b) (s .first) (s .blocks) b l m);
+      later-addition = first-kept s h start;
+      beyond = λ b l. (
+        set-below-beyond (λ b. start + end h b) (s .free) (s .blocks) b l,
+        first-after (λ first. entry first b ≡ firstBegin s b) s h start (set-below-beyond (λ b. begin h b) (s .first) (s .blocks) b l) refl,
+      );
+      free-places = length-set-below (λ b. start + end h b) (s .free) (s .blocks);
+      first-places = first-after (λ first. length first ≡ length (s .first)) s h start (length-set-below (λ b. begin h b) (s .first) (s .blocks)) refl;
     }
 
 -- ---- the adding call
@@ -178,15 +177,60 @@ all-kept s h = (
 
 -- ---- the sheets that calls leave
 
--- a sheet that keeps rule 12 and has a place for each block
+-- a sheet that keeps rule 12 and has the places for each block
 pub record Sound (s : Sheet) : Type 0 where
   pub keeps : Rule12 s
-  pub places : s .blocks ≤ length (s .free)
+  pub free-places : s .blocks ≤ length (s .free)
+  pub first-places : s .blocks ≤ length (s .first)
 
-pub sound-after : (s : Sheet) → Sound s → (h : Hold) → roomRule (s .trains) ≡ true → Rule14 (s .blocks) h → Sound (sheetAfter s h (leastStart s h))
-unfolding sheetAfter
-sound-after s ok h e f =
-    record { keeps = rule-12-after s h (ok .keeps) (ok .places) e f; places = rw (length-released (s .blocks) h (leastStart s h) (s .free)) (ok .places) }
+module _ (s : Sheet) (ok : Sound s) (h : Hold) where
+  abbrev start : ℕ
+  start = leastStart s h
+
+  abbrev after : Sheet
+  after = sheetAfter s h start
+
+  -- the free times that an addition leaves
+  pub freed : (b : ℕ) → b < s .blocks → freeTime after b ≡ start + end h b
+  freed b l = after-is s h start .free-within b l (omega (arith, ok .free-places))
+
+  -- an addition keeps the sheet sound
+  module _ (e : roomRule (s .trains) ≡ true) (f : Rule14 (s .blocks) h) where
+    first-freed : (b : ℕ) → b < s .blocks → firstBegin after b < freeTime after b
+    first-freed b l =
+        ⊎-elim
+        (λ z. omega (arith, freed b l, f .ordered b l, after-is s h start .first-addition z b l (omega (arith, ok .first-places))))
+        (λ m.
+        omega (
+          arith,
+          freed b l,
+          f .ordered b l,
+          ap (λ first. entry first b) (after-is s h start .later-addition m),
+          ok .keeps .first-below m b l,
+          start-is s h .clears b l,
+        ))
+        (eq-zero-or-pos (s .trains))
+
+    rule-12-after : Rule12 after
+    unfolding sheetAfter
+    rule-12-after =
+        let ne : s .trains ≡ 64 → ⊥ = rule-13 (s .trains) .0 e in
+        record {
+          blocks-least = ok .keeps .blocks-least;
+          blocks-most = ok .keeps .blocks-most;
+          trains-most = omega (arith, ok .keeps .trains-most);
+          free-most = λ b l. omega (arith, freed b l, f .end-most b l, start-most s (ok .keeps) h);
+          first-below = λ m b l. first-freed b l;
+        }
+
+    pub sound-after : Sound after
+    unfolding sheetAfter
+    sound-after =
+        record {
+          keeps = rule-12-after;
+          free-places = rw (after-is s h start .free-places) (ok .free-places);
+          first-places = rw (after-is s h start .first-places) (ok .first-places);
+        }
 
 pub sound-added : (s : Sheet) → Sound s → (h : Hold) → Sound (added s h .sheet)
 sound-added s ok h =
@@ -200,6 +244,14 @@ pub sound-fresh : (n : ℕ) → 1 ≤ n → n ≤ 32 → Sound (fresh n)
 unfolding fresh
 sound-fresh n low high =
     record {
-      keeps = record { blocks-least = low; blocks-most = high; trains-most = omega arith; free-most = λ b l. omega (arith, fresh-free n b (omega arith)) };
-      places = high;
+      keeps =
+          record {
+            blocks-least = low;
+            blocks-most = high;
+            trains-most = omega arith;
+            free-most = λ b l. omega (arith, fresh-free n b (omega arith));
+            first-below = λ m. absurd (omega arith);
+          };
+      free-places = high;
+      first-places = high;
     }

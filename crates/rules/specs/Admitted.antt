@@ -7,7 +7,7 @@ use Rattle.rules.specs.Count.{entry}
 use Rattle.rules.specs.Line.{Line, Train}
 use Rattle.rules.specs.Run.{trainCells}
 use Rattle.rules.specs.Hold.{Hold}
-use Rattle.rules.specs.Sheet.{Sheet, begin, end, freeTime}
+use Rattle.rules.specs.Sheet.{Sheet, begin, end, freeTime, firstBegin}
 
 -- 3, of P, L, K, B and T
 pub record Rule3Line (l : Line) (trains : ℕ) : Type 0 where
@@ -93,6 +93,7 @@ pub record Rule12 (s : Sheet) : Type 0 where
   pub blocks-most : s .blocks ≤ 32
   pub trains-most : s .trains ≤ 64
   pub free-most : (b : ℕ) → b < s .blocks → freeTime s b ≤ s .trains * 2 ^ 44
+  pub first-below : 1 ≤ s .trains → (b : ℕ) → b < s .blocks → firstBegin s b < freeTime s b
 
 -- 14, of a hold record and the sheet's block count
 pub record Rule14 (n : ℕ) (h : Hold) : Type 0 where

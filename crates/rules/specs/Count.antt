@@ -4,7 +4,7 @@ use mathlib.Core.Bool.{Bool, true, false}
 use mathlib.Core.List.{List, [], _∷_}
 use mathlib.Core.Option.{Option, none, some}
 use lib.Dec.{leb}
-use lib.ListN.{getD}
+use lib.ListN.{getD, set}
 
 infixr 35 _and_
 -- both tests pass
@@ -28,6 +28,11 @@ row f n = rowFrom f 0 n
 -- a list in n places: 0 past its end
 abbrev pub padded : ℕ → List ℕ → List ℕ
 padded n list = row (entry list) n
+
+-- a list whose first n entries become f 0 to f (n - 1); the others stay
+unfoldable pub setBelow : ℕ → (ℕ → ℕ) → List ℕ → List ℕ
+setBelow zero f list = list
+setBelow (suc n) f list = set (setBelow n f list) n (f n)
 
 -- the test passes at every number below n
 unfoldable pub every : ℕ → (ℕ → Bool) → Bool

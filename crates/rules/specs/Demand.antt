@@ -7,7 +7,7 @@ use mathlib.Core.Path.{_≡_}
 use lib.ListN.{length, getD, take}
 use Rattle.rules.specs.Count.{entry}
 use Rattle.rules.specs.Hold.{Hold, emptyHold}
-use Rattle.rules.specs.Sheet.{Sheet, begin, end, freeTime}
+use Rattle.rules.specs.Sheet.{Sheet, begin, end, freeTime, firstBegin}
 use Rattle.rules.specs.Calls.{Answer, accepted, refused, added}
 use Rattle.rules.specs.Admitted.{Rule12}
 use Rattle.rules.specs.Numbers.{AnswersBy, holdChecks}
@@ -82,7 +82,8 @@ pub record LeastStarts (n : ℕ) (s : Sheet) (calls : List Hold) : Type 0 where
       (others : List Hold) → length others ≡ length calls →
       ((i : ℕ) → i < length calls → SameWithin n (getD calls i emptyHold) (getD others i emptyHold)) →
       (answers s others ≡ answers s calls) × (leftBy s others ≡ leftBy s calls)
-  pub unaltered : (b : ℕ) → n ≤ b → freeTime (leftBy s calls) b ≡ freeTime s b
+  pub unaltered :
+      (b : ℕ) → n ≤ b → (freeTime (leftBy s calls) b ≡ freeTime s b) × (firstBegin (leftBy s calls) b ≡ firstBegin s b)
 
 -- the third demand for starts, of a sheet just opened with n blocks
 abbrev pub ThirdDemand : ℕ → Sheet → Type 0

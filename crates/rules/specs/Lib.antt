@@ -15,3 +15,4 @@ pub mod Demand
 pub mod Text
 pub mod Meaning
 pub mod Diagram
+pub mod Period

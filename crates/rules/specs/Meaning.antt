@@ -10,7 +10,7 @@ use Rattle.rules.specs.Line.{Line, Train}
 use Rattle.rules.specs.Run.{lastTop, trainCells, cellLimit, brakingLoss}
 use Rattle.rules.specs.Time.{Root, departure, arrival}
 use Rattle.rules.specs.Hold.{Hold}
-use Rattle.rules.specs.Sheet.{Sheet, begin, end, freeTime}
+use Rattle.rules.specs.Sheet.{Sheet, begin, end, freeTime, firstBegin}
 use Rattle.rules.specs.Refusal.{Rule, rule}
 
 -- x is a divided by b, rounded up: the least whole number that b times reaches a
@@ -122,9 +122,12 @@ pub record IsBlockNamed (s : Sheet) (h : Hold) (start block : ℕ) : Type 0 wher
 pub record IsSheetAfter (s : Sheet) (h : Hold) (start : ℕ) (after : Sheet) : Type 0 where
   pub blocks : after .blocks ≡ s .blocks
   pub trains : after .trains ≡ s .trains + 1
-  pub within : (b : ℕ) → b < s .blocks → b < length (s .free) → freeTime after b ≡ start + end h b
-  pub beyond : (b : ℕ) → s .blocks ≤ b → freeTime after b ≡ freeTime s b
-  pub places : length (after .free) ≡ length (s .free)
+  pub free-within : (b : ℕ) → b < s .blocks → b < length (s .free) → freeTime after b ≡ start + end h b
+  pub first-addition : s .trains ≡ 0 → (b : ℕ) → b < s .blocks → b < length (s .first) → firstBegin after b ≡ begin h b
+  pub later-addition : 1 ≤ s .trains → after .first ≡ s .first
+  pub beyond : (b : ℕ) → s .blocks ≤ b → (freeTime after b ≡ freeTime s b) × (firstBegin after b ≡ firstBegin s b)
+  pub free-places : length (after .free) ≡ length (s .free)
+  pub first-places : length (after .first) ≡ length (s .first)
 
 -- ---- numbers of refusal
 

@@ -1,6 +1,6 @@
 -- Document 01, "Numbers of refusal, in checking order". Each test passes where its rule is kept.
 use Prim.Native.Nat.{ℕ, _+_, _-_, _*_, _^_, min}
-use mathlib.Core.Bool.{Bool, not, cond}
+use mathlib.Core.Bool.{Bool, true, not, cond}
 use mathlib.Core.List.{List, [], _∷_, _++_}
 use mathlib.Core.Option.{Option, none, some}
 use lib.Dec.{leb, ltb, eqb}
@@ -10,7 +10,7 @@ use Rattle.rules.specs.File.{trainCount, announcedEnd}
 use Rattle.rules.specs.Line.{Line, Train, lineOf, trainOf}
 use Rattle.rules.specs.Run.{trainCells}
 use Rattle.rules.specs.Hold.{Hold}
-use Rattle.rules.specs.Sheet.{Sheet, begin, end, freeTime}
+use Rattle.rules.specs.Sheet.{Sheet, begin, end, freeTime, firstBegin}
 
 -- ---- a list of numbered rules, in checking order
 
@@ -183,12 +183,14 @@ runRules file k speeds times = trainRules file k ++ (rule 11 (buffersLong (lineO
 abbrev pub countRule : ℕ → Bool
 countRule n = within 1 32 n
 
--- 12, of a sheet: also it has at most 64 trains, and no free time of a block within the count is above trains times 2^44.
+-- 12, of a sheet: also it has at most 64 trains, no free time of a block within the count is above trains times 2^44, and on a sheet with
+-- trains the first train's beginning of each such block is below its free time.
 unfoldable pub sheetRule : Sheet → Bool
 sheetRule s =
     countRule (s .blocks)
     and leb (s .trains) 64
     and every (s .blocks) (λ b. leb (freeTime s b) (s .trains * 2 ^ 44))
+    and cond (eqb (s .trains) 0) true (every (s .blocks) (λ b. ltb (firstBegin s b) (freeTime s b)))
 
 -- 13. The sheet does not have 64 trains.
 abbrev pub roomRule : ℕ → Bool

@@ -1,19 +1,20 @@
 -- Document 01, "The sheet of starts": hold records and sheets with any contents, the least start, the block named and the sheet after.
-use Prim.Native.Nat.{ℕ, zero, suc, _+_, _-_}
+use Prim.Native.Nat.{ℕ, _+_, _-_}
 use mathlib.Core.Bool.{cond}
 use mathlib.Core.List.{List}
 use lib.Dec.{eqb}
-use lib.ListN.{set, replicate}
-use Rattle.rules.specs.Count.{entry, greatestBelow, countedFrom1, firstBelow}
+use lib.ListN.{replicate}
+use Rattle.rules.specs.Count.{entry, setBelow, greatestBelow, countedFrom1, firstBelow}
 use Rattle.rules.specs.Hold.{Hold}
 
--- the block count, the number of trains, and the free time of each block
+-- the block count, the number of trains, and for each block its free time and the beginning of the first train's hold
 pub record Sheet : Type 0 where
   pub blocks : ℕ
   pub trains : ℕ
   pub free : List ℕ
+  pub first : List ℕ
 
--- the beginning and the end of the hold of block b, and its free time; b counts from 0
+-- the beginning and the end of the hold of block b, its free time, and the first train's beginning there; b counts from 0
 abbrev pub begin : Hold → ℕ → ℕ
 begin h b = entry (h .begins) b
 
@@ -23,9 +24,12 @@ end h b = entry (h .ends) b
 abbrev pub freeTime : Sheet → ℕ → ℕ
 freeTime s b = entry (s .free) b
 
+abbrev pub firstBegin : Sheet → ℕ → ℕ
+firstBegin s b = entry (s .first) b
+
 -- a fresh sheet of n blocks; the places beyond the block count are 0 too
 unfoldable pub fresh : ℕ → Sheet
-fresh n = record { blocks = n; trains = 0; free = replicate 32 0 }
+fresh n = record { blocks = n; trains = 0; free = replicate 32 0; first = replicate 32 0 }
 
 -- The least start, 0 or more, such that start plus beginning is at least the free time in every block: the greatest wait of a block.
 unfoldable pub leastStart : Sheet → Hold → ℕ
@@ -35,11 +39,13 @@ leastStart s h = greatestBelow (s .blocks) (λ b. freeTime s b - begin h b)
 unfoldable pub blockNamed : Sheet → Hold → ℕ → ℕ
 blockNamed s h start = cond (eqb start 0) 0 (countedFrom1 (firstBelow (s .blocks) (λ b. eqb (start + begin h b) (freeTime s b))))
 
--- the free times of the first n blocks become start plus end
-unfoldable pub released : ℕ → Hold → ℕ → List ℕ → List ℕ
-released zero h start free = free
-released (suc n) h start free = set (released n h start free) n (start + end h n)
-
--- the sheet after an addition at this start
+-- The sheet after an addition at this start: one train more, and each free time is start plus end. The first train's beginnings are set by
+-- the first addition alone. Places beyond the block count stay.
 unfoldable pub sheetAfter : Sheet → Hold → ℕ → Sheet
-sheetAfter s h start = record { blocks = s .blocks; trains = s .trains + 1; free = released (s .blocks) h start (s .free) }
+sheetAfter s h start =
+    record {
+      blocks = s .blocks;
+      trains = s .trains + 1;
+      free = setBelow (s .blocks) (λ b. start + end h b) (s .free);
+      first = cond (eqb (s .trains) 0) (setBelow (s .blocks) (λ b. begin h b) (s .first)) (s .first);
+    }

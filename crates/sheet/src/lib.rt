@@ -1,28 +1,34 @@
-// The sheet of starts: opening a sheet, adding a hold record to it, and the headway of two trains.
+// The sheet of starts: opening a sheet, adding a hold record to it, the headway of two trains, and the period of a sheet.
 mod after;
-mod block;
-mod refusal;
-mod start;
+mod first;
+mod pattern;
 
 use after::release;
-use block::block_named;
+use first::keep_first;
 use holds::HoldRecord;
-use refusal::adding_refusal;
-use refusal::count_kept;
-use refusal::refusal_number;
-use start::least_start;
+use pattern::percentage;
+use pattern::shortest_period;
+use sheet_judging::adding_refusal;
+use sheet_judging::count_kept;
+use sheet_judging::sheet_kept;
+use waits::block_named;
+use waits::longest_wait;
 ghost use mathlib.Core.Path.{_≡_};
 ghost use Rattle.rules.specs.Calls as rules;
 ghost use Rattle.rules.specs.Sheet as sheets;
-ghost use Rattle.rules.specs.Demand.{ThirdDemand};
+ghost use Rattle.rules.specs.Count.{orZero};
+ghost use Rattle.rules.specs.Demand.{refusalOf, ThirdDemand};
+ghost use Rattle.rules.specs.Period.{periodAnswer, HourPattern};
 ghost use Rattle.holds.specs.Values.{asHold};
-ghost use Rattle.sheet.specs.Values.{asSheet, answered, asAddition, asOpening, asHeadwayAnswer};
+ghost use Rattle.sheet.specs.Values.{asSheet, asAnswer, answered, asAddition, asOpening, asHeadwayAnswer, asPeriodAnswer};
 
+// For each block its free time, and the beginning of the first train's hold.
 #[repr(C)]
 pub struct Sheet {
     pub blocks: u64,
     pub trains: u64,
     pub free: [u64; 32],
+    pub first: [u64; 32],
 }
 
 // The least start and the block named, or the number of refusal.
@@ -50,6 +56,14 @@ pub enum HeadwayAnswer {
     Refused(u64),
 }
 
+// The period and its percentage of an hour, 0 and 0 on a refusal.
+#[repr(C)]
+pub struct PeriodAnswer {
+    pub number: u64,
+    pub period: u64,
+    pub percent: u64,
+}
+
 // Opens a sheet. Every list of adding calls from it meets the third demand.
 pub fn open_sheet(blocks: u64) -> Opening
     ensures sheet { λ r. ⌜ asOpening r ≡ rules.opened blocks ⌝ }
@@ -74,6 +88,7 @@ fn fresh(blocks: u64) -> Sheet
         blocks,
         trains: 0,
         free: [0; 32],
+        first: [0; 32],
     }
 }
 
@@ -81,12 +96,13 @@ fn fresh(blocks: u64) -> Sheet
 pub fn with_hold(sheet: Sheet, hold: HoldRecord) -> Addition
     ensures { λ r. ⌜ asAddition r ≡ rules.added (asSheet sheet) (asHold hold) ⌝ }
 {
-    // The free times are lent and altered here, so the sheet is copied once.
+    // The sheet's times are lent and altered here, so the sheet is copied once.
     let mut next = sheet;
     let number = adding_refusal(
         next.blocks,
         next.trains,
         &next.free,
+        &next.first,
         hold.blocks,
         &hold.begins,
         &hold.ends,
@@ -98,8 +114,9 @@ pub fn with_hold(sheet: Sheet, hold: HoldRecord) -> Addition
         };
     }
     let blocks = next.blocks as usize;
-    let start = least_start(blocks, &next.free, &hold.begins);
+    let start = longest_wait(blocks, &next.free, &hold.begins);
     let block = block_named(blocks, &next.free, &hold.begins, start);
+    keep_first(blocks, next.trains, &mut next.first, &hold.begins);
     next.trains += 1;
     release(blocks, &mut next.free, &hold.ends, start);
     Addition {
@@ -116,6 +133,16 @@ pub fn add(sheet: &mut Sheet, hold: HoldRecord) -> Answer
     let done = with_hold(before, hold);
     *sheet = done.sheet;
     done.answer
+}
+
+// The number of a refusal, and 0 of an accepted call.
+fn refusal_number(answer: Answer) -> u64
+    ensures { λ r. ⌜ r ≡ orZero (refusalOf (asAnswer answer)) ⌝ }
+{
+    match answer {
+        Answer::Accepted { start: _, block: _ } => 0,
+        Answer::Refused(number) => number,
+    }
 }
 
 // The second train's start on a sheet of these two.
@@ -137,4 +164,29 @@ pub fn headway(first: HoldRecord, second: HoldRecord) -> HeadwayAnswer
         return HeadwayAnswer::Refused(refusal_number(later));
     };
     HeadwayAnswer::Headway(start)
+}
+
+// The shortest period with which a sheet is repeated, on a sheet with any contents: rule 12.
+pub fn period(sheet: Sheet) -> PeriodAnswer
+    ensures answer { λ r. ⌜ asPeriodAnswer r ≡ periodAnswer (asSheet sheet) ⌝ }
+    ensures pattern { λ r. ⌜ HourPattern (asSheet sheet) (asPeriodAnswer r) ⌝ }
+{
+    if !sheet_kept(sheet.blocks, sheet.trains, &sheet.free, &sheet.first) {
+        return PeriodAnswer {
+            number: 12,
+            period: 0,
+            percent: 0,
+        };
+    }
+    let period = shortest_period(
+        sheet.blocks as usize,
+        sheet.trains,
+        &sheet.free,
+        &sheet.first,
+    );
+    PeriodAnswer {
+        number: 0,
+        period,
+        percent: percentage(period),
+    }
 }

@@ -4,6 +4,7 @@ use holds::HoldRecord;
 use sheet::Addition;
 use sheet::Answer;
 use sheet::HeadwayAnswer;
+use sheet::PeriodAnswer;
 use sheet::Sheet;
 ghost use mathlib.Core.Path.{_≡_};
 ghost use Rattle.rules.specs.Calls.{added};
@@ -65,19 +66,28 @@ fn read_sheet() -> Sheet {
     let blocks = read_number();
     let trains = read_number();
     let free = read_places();
+    let first = read_places();
     Sheet {
         blocks,
         trains,
         free,
+        first,
     }
 }
 
-// One number for the sheet's 34, places beyond the block count included.
+// One number for the sheet's 66, places beyond the block count included.
 fn checksum(sheet: Sheet) -> u64 {
-    let mut sum = std::num::wrapping_add_u64(turned(sheet.blocks), sheet.trains);
+    let counts = std::num::wrapping_add_u64(turned(sheet.blocks), sheet.trains);
+    let sum = summed(counts, &sheet.free);
+    summed(sum, &sheet.first)
+}
+
+// The sum with all 32 places taken in.
+fn summed(before: u64, places: &[u64; 32]) -> u64 {
+    let mut sum = before;
     let mut b = 0;
     while b < 32 {
-        sum = std::num::wrapping_add_u64(turned(sum), sheet.free[b]);
+        sum = std::num::wrapping_add_u64(turned(sum), places[b]);
         b += 1;
     }
     sum
@@ -96,12 +106,17 @@ fn print_sheet(sheet: Sheet) {
     io::write_all(1, b"sheet");
     print_number(sheet.blocks);
     print_number(sheet.trains);
+    print_places(&sheet.free);
+    print_places(&sheet.first);
+    io::write_all(1, b"\n");
+}
+
+fn print_places(places: &[u64; 32]) {
     let mut b = 0;
     while b < 32 {
-        print_number(sheet.free[b]);
+        print_number(places[b]);
         b += 1;
     }
-    io::write_all(1, b"\n");
 }
 
 fn print_answer(answer: Answer, sheet: Sheet) {
@@ -131,6 +146,18 @@ fn print_headway(answer: HeadwayAnswer) {
             io::write_all(1, b"no headway");
             print_number(number);
         }
+    }
+    io::write_all(1, b"\n");
+}
+
+fn print_period(answer: PeriodAnswer) {
+    if answer.number == 0 {
+        io::write_all(1, b"period");
+        print_number(answer.period);
+        print_number(answer.percent);
+    } else {
+        io::write_all(1, b"no period");
+        print_number(answer.number);
     }
     io::write_all(1, b"\n");
 }
@@ -179,6 +206,10 @@ fn called(kind: u64, sheet: Sheet) -> Sheet {
             sheet
         }
         4 => read_sheet(),
+        6 => {
+            print_period(sheet::period(sheet));
+            sheet
+        }
         _ => {
             print_sheet(sheet);
             sheet

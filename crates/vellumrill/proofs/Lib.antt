@@ -1,4 +1,2 @@
 pub mod Machine
-pub mod Numbers
 pub mod FileSizes
-pub mod Opened

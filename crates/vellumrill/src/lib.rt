@@ -1,13 +1,14 @@
 // The calls for C and Rust. A slice crosses as a pointer and its length. Number 0 means accepted.
-mod answers;
-
-use answers::headway_by_number;
-use answers::opened_over;
-use answers::step_by_number;
 use hold::HoldAnswer;
 use holds::HoldRecord;
 use line::RecordPlace;
+use sheet::PeriodAnswer;
 use sheet::Sheet;
+use sheet_answers::Added;
+use sheet_answers::HeadwayAnswer;
+use sheet_answers::headway_by_number;
+use sheet_answers::opened_over;
+use sheet_answers::step_by_number;
 use study::RowsAnswer;
 use text::WriteAnswer;
 use widths::wide64;
@@ -19,16 +20,18 @@ ghost use Rattle.rules.specs.Demand.{ThirdDemand};
 ghost use Rattle.rules.specs.Diagram.{diagramBytes, diagramRefusal, diagramAfter, CarriesRun};
 ghost use Rattle.rules.specs.File.{pointCount, trainCount};
 ghost use Rattle.rules.specs.Line.{lineOf, trainOf};
+ghost use Rattle.rules.specs.Period.{periodAnswer, HourPattern};
 ghost use Rattle.rules.specs.Text.{sheetText};
 ghost use Rattle.rules.specs.Time.{FastestRun};
 ghost use Rattle.hold.specs.Calls.{asHoldAnswer};
 ghost use Rattle.holds.specs.Values.{asHold};
 ghost use Rattle.line.specs.Answers.{asRecordPlace};
-ghost use Rattle.sheet.specs.Values.{asSheet};
+ghost use Rattle.sheet.specs.Values.{asSheet, asPeriodAnswer};
 ghost use Rattle.study.specs.Rows.{startsOf, runsOf, blocksOf, rowsRefusal, rowsAnswer, LeastForFile};
 ghost use Rattle.study_text.specs.Study.{studyRefusal};
 ghost use Rattle.text.specs.Text.{writeAnswer};
-ghost use Rattle.vellumrill.specs.Answers.{fileSizes, openedInto, addedByNumber, headwayByNumber};
+ghost use Rattle.sheet_answers.specs.Answers.{openedInto, addedByNumber, headwayByNumber};
+ghost use Rattle.vellumrill.specs.Answers.{fileSizes};
 
 // P, L in m, B and T, all 0 on a refusal.
 #[repr(C)]
@@ -38,21 +41,6 @@ pub struct Sizes {
     pub step: u64,
     pub blocks: u64,
     pub trains: u64,
-}
-
-// The least start and the block named, 0 and 0 on a refusal.
-#[repr(C)]
-pub struct Added {
-    pub number: u64,
-    pub start: u64,
-    pub block: u64,
-}
-
-// The headway, 0 on a refusal.
-#[repr(C)]
-pub struct HeadwayAnswer {
-    pub number: u64,
-    pub headway: u64,
 }
 
 // Rules 1 to 9.
@@ -155,6 +143,17 @@ pub extern "C" fn vr_headway(first: &HoldRecord, second: &HoldRecord) -> Headway
     let earlier = *first;
     let later = *second;
     headway_by_number(earlier, later)
+}
+
+// The shortest period with which a sheet is repeated, and its percentage of an hour, on a sheet with any contents: rule 12.
+#[no_mangle]
+pub extern "C" fn vr_period(sheet: &Sheet) -> PeriodAnswer
+    ensures { λ r. ⌜
+        (asPeriodAnswer r ≡ periodAnswer (asSheet (now (sheet .entry))))
+        × HourPattern (asSheet (now (sheet .entry))) (asPeriodAnswer r) ⌝ }
+{
+    let present = *sheet;
+    sheet::period(present)
 }
 
 // The start, the running time and the block of each train of a file: rules 1 to 9, then 11 where a slice has fewer places than the file has

@@ -45,15 +45,15 @@ use denote.Triple.Walked.{says, Stays, stay-none-ref, walkOf, goes-none-ref, Wal
 use Rattle.rules.specs.Calls.{headway}
 use Rattle.holds.specs.Values.{asHold}
 use Rattle.sheet.proofs.Machine.{hold-val, HoldIs, hold-makes, hold-typed}
-use Rattle.vellumrill.specs.Answers.{headwayByNumber}
-use Rattle.vellumrill.specs.declared.HeadwayAnswer.{HeadwayAnswer}
-use Rattle.vellumrill.proofs.HeadwayAnswer as N
-use Rattle.vellumrill.proofs.HeadwayAnswer.Laws as N′
-use Rattle.vellumrill.proofs.Machine.{headway-val, HeadwayIs, headway-is, headway-makes, headway-typed}
-use Rattle.vellumrill.proofs.answers.headway_by_number as by-number
-use Rattle.vellumrill.proofs.answers.headway_by_number.Symbol as by-number-def
-use Rattle.vellumrill.proofs.answers.headway_by_number.Symbol.{name as #by-number}
-use Rattle.vellumrill.proofs.answers.headway_by_number.Met as by-number-thm
+use Rattle.sheet_answers.specs.Answers.{headwayByNumber}
+use Rattle.sheet_answers.specs.declared.HeadwayAnswer.{HeadwayAnswer}
+use Rattle.sheet_answers.proofs.HeadwayAnswer as N
+use Rattle.sheet_answers.proofs.HeadwayAnswer.Laws as N′
+use Rattle.sheet_answers.proofs.Machine.{headway-val, HeadwayIs, headway-is, headway-makes, headway-typed}
+use Rattle.sheet_answers.proofs.headway_by_number as by-number
+use Rattle.sheet_answers.proofs.headway_by_number.Symbol as by-number-def
+use Rattle.sheet_answers.proofs.headway_by_number.Symbol.{name as #by-number}
+use Rattle.sheet_answers.proofs.headway_by_number.Met as by-number-thm
 use Rattle.vellumrill.proofs.vr_headway.Key.{name as #vr-headway}
 use Rattle.vellumrill.proofs.vr_headway as headways
 use Rattle.vellumrill.proofs.vr_headway.Statement as stated
@@ -179,5 +179,5 @@ vr-headway-spec 𝓤 H 𝓜 𝓖 𝓡 =
     entered 𝓤 H (tripleOf 𝓤 H (𝓖 .A) headways.signature (headways.spec 𝓤 H (𝓖 .A) (𝓜 .mem) (𝓡 .run)))
     (tables 𝓤 H 𝓜 𝓡 code.env .C) (tables 𝓤 H 𝓜 𝓡 code.env .Λ) #vr-headway code.function (code.unfolded 𝓤 H 𝓜 𝓡)
     (headway-meets 𝓤 H (𝓖 .A) (givenOf 𝓤 H 𝓜 𝓖) (𝓜 .mem) (𝓡 .run) (tablesOf 𝓤 H 𝓜 (tables 𝓤 H 𝓜 𝓡 code.env))
-    (cited 𝓤 H (ByNumber 𝓤 H (𝓖 .A) (𝓜 .mem) (𝓡 .run)) 𝓜 𝓡 code.env #by-number by-number-def.routine code.calls-vellumrill·answers·headway-by-number
+    (cited 𝓤 H (ByNumber 𝓤 H (𝓖 .A) (𝓜 .mem) (𝓡 .run)) 𝓜 𝓡 code.env #by-number by-number-def.routine code.calls-sheet-answers·headway-by-number
     (by-number-thm.met 𝓤 H 𝓜 𝓖 𝓡)))

@@ -1,23 +1,21 @@
 -- `release`: at the loop's test the first b blocks have their new free times. Assumes nothing.
-use Prim.Native.Nat.{_≤_, _-_}
-use mathlib.Core.List.{[]}
+use Prim.Native.Nat.{_+_, _-_, _≤_}
 use mathlib.Core.Path.{_≡_}
 use native.Mathlib.Omega.{arith}
 use borrow.Author.Needs.{needs}
-use Rattle.rules.specs.Sheet.{released}
-use Rattle.sheet.specs.Values.{holdFrom}
-use Rattle.sheet.proofs.Loops.{released-none, released-next, released-done}
+use Rattle.rules.specs.Count.{entry, setBelow}
+use Rattle.rules.proofs.Loops.{set-none, set-next, set-done}
 use Rattle.sheet.proofs.after.release.Statement.{statement}
 use Rattle.sheet.proofs.after.release.Tie as tie
 
 abbrev Inv-loop : tie.InvT-loop
-Inv-loop blocks free₀ ends start b₀ free b = (b ≤ blocks) × (free ≡ released b (holdFrom 0 [] ends) start free₀)
+Inv-loop blocks free₀ ends start b₀ free b = (b ≤ blocks) × (free ≡ setBelow b (λ k. start + entry ends k) free₀)
 
 abbrev μ-loop : tie.MeasureT-loop
 μ-loop blocks free₀ ends start b₀ free b = blocks - b
 
 loop-holds : tie.Need-loop-holds Inv-loop μ-loop
-loop-holds c = (search needs, released-none _ _ _)
+loop-holds c = (search needs, set-none _ _)
 
 mul-free-again : tie.Need-mul-free-again Inv-loop μ-loop
 mul-free-again c = search needs
@@ -46,12 +44,12 @@ loop-less c = search needs
 loop-again : tie.Need-loop-again Inv-loop μ-loop
 loop-again c =
     let inv = c .before .before .before .loop .inv in
-    (search needs, released-next _ _ _ _ (inv .1) (c .free-again .ensures))
+    (search needs, set-next _ _ _ (inv .1) (c .free-again .ensures))
 
 returns : tie.Need-returns Inv-loop μ-loop
 returns c =
     let inv = c .before .loop .inv in
-    released-done _ _ _ (inv .0) (omega arith) (inv .1)
+    set-done _ _ (inv .0) (omega arith) (inv .1)
 
 pub release-spec : {M : Type 1} → statement M
 release-spec =
