@@ -9,13 +9,13 @@ use Rattle.rules.specs.Refusal.{firstBroken, countRule, roomRule, holdRu
 use Rattle.rules.specs.Calls.{accept, refuse, added, headwayOf, noHeadway, headway}
 use Rattle.rules.specs.Admitted.{Rule12, Rule14}
 use Rattle.rules.proofs.Count.{within-means}
-use Rattle.rules.proofs.Sheet.{rule-12, start-is, added-kept, added-broken, all-kept, Sound, sound-after, fresh-free, sound-fresh}
+use Rattle.rules.proofs.Sheet.{rule-12, start-zero, added-kept, added-broken, all-kept, Sound, sound-after, fresh-free, sound-fresh}
 use Rattle.rules.proofs.Demand.{opened-fresh, opened-refused}
 
 -- the first train starts at 0
 pub fresh-start : (n : ℕ) → n ≤ 32 → (h : Hold) → leastStart (fresh n) h ≡ 0
 unfolding fresh
-fresh-start n high h = omega (arith, start-is (fresh n) h .least 0 (λ b l. omega (arith, fresh-free n b (omega arith))))
+fresh-start n high h = start-zero (fresh n) h (λ b l. fresh-free n b (omega arith))
 
 -- a record that breaks 14 is refused by that number, where 12 and 13 are kept
 added-14 : (s : Sheet) (h : Hold) → Rule12 s → roomRule (s .trains) ≡ true → holdRule (s .blocks) h ≡ false → added s h ≡ refuse s 14

@@ -14,7 +14,7 @@ use Rattle.rules.specs.Refusal.{firstBroken, addingRules}
 use Rattle.rules.specs.Calls.{accepted, added}
 use Rattle.rules.specs.Demand.{answers, leftBy, starts, trains}
 use Rattle.rules.specs.Admitted.{Rule14}
-use Rattle.rules.proofs.Sheet.{start-is, after-is, either-way, all-kept, Sound, freed, sound-added}
+use Rattle.rules.proofs.Sheet.{start-zero, after-is, either-way, all-kept, Sound, freed, sound-added}
 
 -- the sheet `left` after the trains hs with the starts ts are added to s
 pub record Leaves (s : Sheet) (hs : List Hold) (ts : List ℕ) (left : Sheet) : Type 0 where
@@ -55,7 +55,7 @@ module _ (s : Sheet) (ok : Sound s) (h : Hold) (e : firstBroken (addingRules s h
         unchanged = λ z. absurd (omega arith);
         count = omega (arith, r .count);
         kept = kept-more;
-        at-zero = λ free m. omega (arith, start-is s h .least 0 (λ b l. omega (arith, free b l)));
+        at-zero = λ free m. start-zero s h free;
         first = λ z m. first-more z;
         later = λ m. r .later (omega arith) ∙ after-is s h start .later-addition m;
         last = λ k z. last-more k (omega arith);

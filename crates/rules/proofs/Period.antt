@@ -1,9 +1,9 @@
 -- The period and its percentage, the period call, and the claim about repeated sheets. Assumes nothing.
 use Prim.Native.Nat.{ℕ, zero, suc, _+_, _-_, _*_, _^_, _≤_, _<_}
-use mathlib.Core.Bool.{true, false, cond}
+use mathlib.Core.Bool.{cond}
 use mathlib.Core.List.{List}
 use mathlib.Core.Logic.{⊎-elim}
-use mathlib.Core.Path.{_≡_, refl, sym, ap}
+use mathlib.Core.Path.{_≡_, refl, sym, ap, _∙_}
 use native.Mathlib.Decide.{decLt}
 use native.Mathlib.Nat.{eq-zero-or-pos, mul-le-mul-right, suc-mul}
 use native.Mathlib.Omega.{arith}
@@ -13,14 +13,14 @@ use borrow.Author.Tests.{ne-eqb}
 use Rattle.rules.specs.Count.{entry, orZero, greatestBelow}
 use Rattle.rules.specs.Hold.{Hold, emptyHold}
 use Rattle.rules.specs.Sheet.{Sheet, begin, end, freeTime, firstBegin, fresh}
-use Rattle.rules.specs.Refusal.{firstBroken, refusal, sheetRule}
+use Rattle.rules.specs.Refusal.{refusal}
 use Rattle.rules.specs.Calls.{Answer}
 use Rattle.rules.specs.Admitted.{Rule12}
 use Rattle.rules.specs.Numbers.{AnswersBy}
 use Rattle.rules.specs.Demand.{answers, leftBy, starts, trains, WithoutOverlap}
 use Rattle.rules.specs.Period.{period, percentage, PeriodAnswer, periodAnswer, periodChecks, IsPeriod, IsPercentage, repeatedStart}
 use Rattle.rules.specs.Period.{Overlap, ShortestPeriod, HourPattern}
-use Rattle.rules.proofs.Count.{within-means, at-most-greatest, greatest-attained}
+use Rattle.rules.proofs.Count.{within-means, at-most-greatest, greatest-at-most, greatest-attained}
 use Rattle.rules.proofs.Sheet.{rule-12, Sound, fresh-free, sound-fresh}
 use Rattle.rules.proofs.Numbers.{judges-none, judges-first, answers-by}
 use Rattle.rules.proofs.Demand.{sound-left, third-demand, opened-fresh, opened-count}
@@ -31,41 +31,39 @@ pub percentage-is : (p : ℕ) → IsPercentage p (percentage p)
 unfolding percentage
 percentage-is p = record { below = omega arith; above = omega arith }
 
-module _ (s : Sheet) where
+module _ (s : Sheet) (r : Rule12 s) where
   abbrev gap : ℕ → ℕ
   gap b = freeTime s b - firstBegin s b
 
-  pub period-empty : s .trains ≡ 0 → 0 ≡ period s
+  empty : s .trains ≡ 0 → period s ≡ 0
   unfolding period
-  period-empty z = rw z
+  empty z = rw z
 
-  pub period-trains : (s .trains ≡ 0 → ⊥) → period s ≡ greatestBelow (s .blocks) gap
+  -- a sheet without trains has the free time 0 in every block, so its period is the greatest too
+  pub period-greatest : period s ≡ greatestBelow (s .blocks) gap
   unfolding period
-  period-trains h = rw (ne-eqb (s .trains) 0 h)
+  period-greatest =
+      ⊎-elim
+      (λ z. empty z ∙ omega (arith, greatest-at-most (s .blocks) gap 0 (λ b l. omega (arith, z, r .free-most b l))))
+      (λ m. rw (ne-eqb (s .trains) 0 (λ z. omega arith)))
+      (eq-zero-or-pos (s .trains))
 
-module _ (s : Sheet) (r : Rule12 s) where
-  -- a sheet with trains
-  module _ (m : 1 ≤ s .trains) where
-    of-trains : period s ≡ greatestBelow (s .blocks) (gap s)
-    of-trains = period-trains s (λ z. omega arith)
+  period-each : (b : ℕ) → b < s .blocks → freeTime s b ≤ firstBegin s b + period s
+  period-each b l = omega (arith, period-greatest, at-most-greatest (s .blocks) gap b l)
 
-    period-each : (b : ℕ) → b < s .blocks → freeTime s b ≤ firstBegin s b + period s
-    period-each b l = omega (arith, of-trains, at-most-greatest (s .blocks) (gap s) b l)
-
-    period-attained : (b : ℕ) × (b < s .blocks) × (freeTime s b ≡ firstBegin s b + period s)
-    period-attained =
-        let some : 0 < greatestBelow (s .blocks) (gap s) =
-        omega (arith, at-most-greatest (s .blocks) (gap s) 0 (r .blocks-least), r .first-below m 0 (r .blocks-least)) in
-        let (b, l, e) = greatest-attained (s .blocks) (gap s) some in
-        (b, l, omega (arith, e, of-trains, r .first-below m b l))
+  period-attained : 1 ≤ s .trains → (b : ℕ) × (b < s .blocks) × (freeTime s b ≡ firstBegin s b + period s)
+  period-attained m =
+      let some : 0 < greatestBelow (s .blocks) gap =
+      omega (arith, at-most-greatest (s .blocks) gap 0 (r .blocks-least), r .first-below m 0 (r .blocks-least)) in
+      let (b, l, e) = greatest-attained (s .blocks) gap some in
+      (b, l, omega (arith, e, period-greatest, r .first-below m b l))
 
   pub period-is : IsPeriod s (period s)
-  period-is = record { empty = λ z. sym (period-empty s z); each = period-each; attained = period-attained }
+  period-is = record { empty = empty; each = λ m. period-each; attained = period-attained }
 
   pub period-most : period s ≤ 64 * 2 ^ 44
   period-most =
-      ⊎-elim (λ z. omega (arith, period-empty s z))
-      (λ m. let (b, l, e) = period-attained m in omega (arith, e, r .free-most b l, r .trains-most)) (eq-zero-or-pos (s .trains))
+      omega (arith, period-greatest, greatest-at-most (s .blocks) gap (64 * 2 ^ 44) (λ b l. omega (arith, r .free-most b l, r .trains-most)))
 
 -- ---- the period call
 
@@ -78,14 +76,6 @@ period-number s =
     answers-by
     (λ o. cond {A = PeriodAnswer} (eqb (orZero o) 0) (record { number = 0; period = period s; percent = percentage (period s) })
     (record { number = orZero o; period = 0; percent = 0 })) (judges-first (rule-12 s) judges-none)
-
-pub answer-refused : (s : Sheet) → sheetRule s ≡ false → record { number = 12; period = 0; percent = 0 } ≡ periodAnswer s
-unfolding firstBroken refusal periodAnswer
-answer-refused s e = rw e
-
-pub answer-accepted : (s : Sheet) → sheetRule s ≡ true → record { number = 0; period = period s; percent = percentage (period s) } ≡ periodAnswer s
-unfolding firstBroken refusal periodAnswer
-answer-accepted s e = rw e
 
 -- ---- the claim about repeated sheets
 
@@ -227,7 +217,7 @@ module _ (n : ℕ) (low : 1 ≤ n) (high : n ≤ 32) (calls : List Hold) where
       rw (period-number left .1 r) (
         refl,
         repeats n (trains calls got) (starts got) left some-train l high (demand .apart) (period left) (omega (arith, e, r .first-below with-trains b i))
-            (λ b i. period-each left r with-trains b (rw count i)) (b, omega (arith, i, count), e),
+            (λ b i. period-each left r b (rw count i)) (b, omega (arith, i, count), e),
       )
 
 hour-pattern : (s : Sheet) → HourPattern s (periodAnswer s)

@@ -80,6 +80,10 @@ start-is s h =
       least = λ other c. greatest-at-most (s .blocks) (λ b. freeTime s b - begin h b) other (λ b l. omega (arith, c b l));
     }
 
+-- where every block is free, a train starts at 0
+pub start-zero : (s : Sheet) (h : Hold) → ((b : ℕ) → b < s .blocks → freeTime s b ≡ 0) → leastStart s h ≡ 0
+start-zero s h free = omega (arith, start-is s h .least 0 (λ b l. omega (arith, free b l)))
+
 pub start-most : (s : Sheet) → Rule12 s → (h : Hold) → leastStart s h ≤ s .trains * 2 ^ 44
 start-most s r h = start-is s h .least (s .trains * 2 ^ 44) (λ b l. omega (arith, r .free-most b l))
 

@@ -183,8 +183,8 @@ runRules file k speeds times = trainRules file k ++ (rule 11 (buffersLong (lineO
 abbrev pub countRule : ℕ → Bool
 countRule n = within 1 32 n
 
--- 12, of a sheet: also it has at most 64 trains, no free time of a block within the count is above trains times 2^44, and on a sheet with
--- trains the first train's beginning of each such block is below its free time.
+-- 12, of a sheet: also it has at most 64 trains, no free time of a block within the count is above trains times 2^44, and, by "Req 03" of
+-- document 02, on a sheet with trains the first train's beginning of each such block is below its free time.
 unfoldable pub sheetRule : Sheet → Bool
 sheetRule s =
     countRule (s .blocks)

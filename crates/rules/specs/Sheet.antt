@@ -1,4 +1,5 @@
 -- Document 01, "The sheet of starts": hold records and sheets with any contents, the least start, the block named and the sheet after.
+-- Document 02, "Req 03": a sheet keeps the first train's beginnings.
 use Prim.Native.Nat.{ℕ, _+_, _-_}
 use mathlib.Core.Bool.{cond}
 use mathlib.Core.List.{List}

@@ -7,7 +7,6 @@ use after::release;
 use first::keep_first;
 use holds::HoldRecord;
 use pattern::percentage;
-use pattern::shortest_period;
 use sheet_judging::adding_refusal;
 use sheet_judging::count_kept;
 use sheet_judging::sheet_kept;
@@ -178,12 +177,8 @@ pub fn period(sheet: Sheet) -> PeriodAnswer
             percent: 0,
         };
     }
-    let period = shortest_period(
-        sheet.blocks as usize,
-        sheet.trains,
-        &sheet.free,
-        &sheet.first,
-    );
+    // A sheet without trains has the free time 0 in every block, and so the period 0.
+    let period = longest_wait(sheet.blocks as usize, &sheet.free, &sheet.first);
     PeriodAnswer {
         number: 0,
         period,
