@@ -9,14 +9,16 @@
  * call may write overlaps nothing else that is lent to it. A pointer with length 0 is not followed, and may be null.
  * Nothing is asked of the values: files, buffers, sheets and hold records may hold anything.
  *
- * Every answer has a number. 0 means accepted; any other is the first broken rule in checking order:
+ * Every answer has a number. 0 means accepted; any other is the first broken rule in checking order, which is that of
+ * this list. The file's rules are 1 to 9 and 15.
  *
  *    1  the file ends before something that its sizes announce
  *    2  bytes follow the last announced train
- *    3  a size, a class or a length is beyond its limits
+ *    3  a size, a class or a length is beyond its limits; the sizes include the count of balises, 0 to 64
  *    4  limit points do not begin at 0, do not rise, or pass the last cell
  *    5  a limit is not 1 to 300 km/h
  *    6  blocks do not begin at 0, do not end after their start, overlap, or pass the last point
+ *   15  balises do not strictly rise in place, have metres past their point that reach the step, or pass the last point
  *    7  band tops do not rise within 1 to 300 km/h, or a rate is not 1 to 200 cm/s2
  *    8  stops are less than two points apart or pass the last point, or a dwell is above 3,600 s
  *    9  a train has no room behind the last block
@@ -38,7 +40,7 @@ extern "C" {
 #endif
 
 /* Raised whenever a call, a struct or the meaning of a figure changes. */
-#define VR_VERSION 4
+#define VR_VERSION 5
 
 /* The numbers by name. */
 enum {
@@ -56,7 +58,8 @@ enum {
     VR_REFUSED_SHORT_BUFFER = 11,
     VR_REFUSED_SHEET = 12,
     VR_REFUSED_SHEET_FULL = 13,
-    VR_REFUSED_HOLD_RECORD = 14
+    VR_REFUSED_HOLD_RECORD = 14,
+    VR_REFUSED_BALISES = 15
 };
 
 /* The most that an accepted file has of each, and the most bytes of the text of its sheet. */
@@ -130,45 +133,45 @@ typedef struct vr_written {
 } vr_written;
 
 /* Checks a file.
- * Returns 0, or the number of refusal by rules 1 to 9. Writes nothing. */
+ * Returns 0, or the number of refusal by the file's rules. Writes nothing. */
 uint64_t vr_check_file(const uint8_t *file, size_t len);
 
 /* Checks a file and a train number.
- * Returns 0, or the number of refusal by rules 1 to 10. Writes nothing. */
+ * Returns 0, or the number of refusal by the file's rules and 10. Writes nothing. */
 uint64_t vr_check_train(const uint8_t *file, size_t len, uint64_t k);
 
 /* Finds the record of train k, from its class to its last dwell (or last rate, if it has no stops).
  * Returns the number 0, the place of the record's first byte, counted from 0, and its count of bytes; or the number of
- * refusal by rules 1 to 10 with start 0 and length 0. Writes nothing. */
+ * refusal by the file's rules and 10 with start 0 and length 0. Writes nothing. */
 vr_record_answer vr_train_record(const uint8_t *file, size_t len, uint64_t k);
 
 /* The sizes of a file: its points, its step in m, its blocks and its trains.
- * Returns the number 0 and these; or the number of refusal by rules 1 to 9 and zeros. Writes nothing. */
+ * Returns the number 0 and these; or the number of refusal by the file's rules and zeros. Writes nothing. */
 vr_sizes_answer vr_sizes(const uint8_t *file, size_t len);
 
 /* Computes the run of train k.
- * Returns 0, or the number of refusal by rules 1 to 11. Of a line with P points it writes the P squared speeds to
- * `speeds`, in squares of hundredths of a km/h, and the P arrivals to `times`; entries from P on are kept. No permitted
- * row of speeds reaches a point before these. VR_MOST_POINTS entries are enough for every file. A refusal keeps every
- * entry. */
+ * Returns 0, or the number of refusal by the file's rules, 10 and 11. Of a line with P points it writes the P squared
+ * speeds to `speeds`, in squares of hundredths of a km/h, and the P arrivals to `times`; entries from P on are kept.
+ * No permitted row of speeds reaches a point before these. VR_MOST_POINTS entries are enough for every file. A refusal
+ * keeps every entry. */
 uint64_t vr_run(const uint8_t *file, size_t len, uint64_t k, uint32_t *speeds, size_t ns, uint64_t *times, size_t nt);
 
 /* Computes the run and the block holds of train k.
  * Returns the number 0 and the hold record, in which places beyond the block count are 0; or the number of refusal by
- * rules 1 to 11 and a record of zeros. Writes to `speeds` and `times` what vr_run writes. A refusal keeps every
- * entry. */
+ * the file's rules, 10 and 11 and a record of zeros. Writes to `speeds` and `times` what vr_run writes. A refusal
+ * keeps every entry. */
 vr_hold_answer vr_hold(const uint8_t *file, size_t len, uint64_t k, uint32_t *speeds, size_t ns, uint64_t *times,
                        size_t nt);
 
 /* The speed-distance diagram of train k.
- * Returns the number 0 and the count of bytes, VR_POINT_SIZE for each of the P points; or the number of refusal by rules
- * 1 to 10, then 11 where n is less than this count, and 0 bytes. Writes to the first bytes, point after point, three
- * doubles (IEEE 754, eight bytes each, low byte first): the position in metres from the first point, the speed in
- * hundredths of a km/h, which is the root of vr_run's squared speed, and the arrival as vr_run gives it. Each is a whole
- * number below 2^53, so that turning it back into an integer loses nothing. Behind them, at VR_POINT_DOT, is one byte for
- * the point's dot: 1, a full dot, where the squared speed is the square of that speed, so also at a stop; 0, an open one,
- * where the speed was rounded down. The points are not aligned: copy the doubles out with memcpy. The other bytes are
- * kept. VR_MOST_DIAGRAM bytes are enough for every file. A refusal keeps every byte. */
+ * Returns the number 0 and the count of bytes, VR_POINT_SIZE for each of the P points; or the number of refusal by the
+ * file's rules and 10, then 11 where n is less than this count, and 0 bytes. Writes to the first bytes, point after
+ * point, three doubles (IEEE 754, eight bytes each, low byte first): the position in metres from the first point, the
+ * speed in hundredths of a km/h, which is the root of vr_run's squared speed, and the arrival as vr_run gives it. Each
+ * is a whole number below 2^53, so that turning it back into an integer loses nothing. Behind them, at VR_POINT_DOT,
+ * is one byte for the point's dot: 1, a full dot, where the squared speed is the square of that speed, so also at a
+ * stop; 0, an open one, where the speed was rounded down. The points are not aligned: copy the doubles out with
+ * memcpy. The other bytes are kept. VR_MOST_DIAGRAM bytes are enough for every file. A refusal keeps every byte. */
 vr_written vr_diagram(const uint8_t *file, size_t len, uint64_t k, uint8_t *bytes, size_t n);
 
 /* Opens a sheet of starts for a line with so many blocks.
@@ -198,18 +201,18 @@ vr_headway_answer vr_headway(const vr_hold_record *first, const vr_hold_record *
 vr_period_answer vr_period(const vr_sheet *sheet);
 
 /* The sheet of a whole file: all its trains, added in the file's order to a fresh sheet.
- * Returns the number 0 and the count of trains T; or the number of refusal by rules 1 to 9, then 11 where one of the
- * three has fewer than T entries, and 0 trains. Writes to the first T entries of `starts`, `runs` and `blocks` each
- * train's start, its running time and the block that binds it, as vr_add and vr_run give them; entries from T on are
- * kept. No two trains overlap in a block, and none could start sooner in that order. VR_MOST_TRAINS entries are enough
- * for every file. A refusal keeps every entry. */
+ * Returns the number 0 and the count of trains T; or the number of refusal by the file's rules, then 11 where one of
+ * the three has fewer than T entries, and 0 trains. Writes to the first T entries of `starts`, `runs` and `blocks`
+ * each train's start, its running time and the block that binds it, as vr_add and vr_run give them; entries from T on
+ * are kept. No two trains overlap in a block, and none could start sooner in that order. VR_MOST_TRAINS entries are
+ * enough for every file. A refusal keeps every entry. */
 vr_rows_answer vr_rows(const uint8_t *file, size_t len, uint64_t *starts, size_t n1, uint64_t *runs, size_t n2,
                        uint64_t *blocks, size_t n3);
 
 /* The same sheet as text: a line "train start run block", then a line for each train, counted from 1.
- * Returns the number 0 and the count of bytes; or the number of refusal by rules 1 to 9, then 11 where the text has more
- * than n bytes, and 0 bytes. Writes the text to the first bytes of `text`; the others are kept. VR_MOST_TEXT bytes are
- * enough for every file. A refusal keeps every byte. */
+ * Returns the number 0 and the count of bytes; or the number of refusal by the file's rules, then 11 where the text
+ * has more than n bytes, and 0 bytes. Writes the text to the first bytes of `text`; the others are kept. VR_MOST_TEXT
+ * bytes are enough for every file. A refusal keeps every byte. */
 vr_written vr_study(const uint8_t *file, size_t len, uint8_t *text, size_t n);
 
 #ifdef __cplusplus

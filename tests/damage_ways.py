@@ -1,6 +1,7 @@
 """Accepted line files, and ways to damage them at random."""
 import struct
 
+from balises import last_place, with_some_balises
 from yardstick import VERSION, Refused, parse, sample_line, write_line
 
 from vectors import INTERESTING, one_of_each_line, random_line
@@ -8,11 +9,21 @@ from vectors import INTERESTING, one_of_each_line, random_line
 MOST_POINTS = 4096
 TOP = 2 ** 64 - 1
 
-# The limits of each number and one beyond; None for points, whose limit depends on P.
+
+def points_about(line):
+    return [0, 1, line.P - 2, line.P - 1, line.P]
+
+
+def metres_about(line):
+    return [0, 1, line.L - 1, line.L]
+
+
+# The limits of each number and one beyond, or what gives them for a line.
 LINE_LIMITS = {"P": [2, 3, 4096, 4097], "L": [0, 1, 100, 101], "setup": [0, 65535], "release": [0, 65535],
-               "limit_points": None, "limits": [0, 1, 300, 301], "block_starts": None, "block_ends": None}
+               "limit_points": points_about, "limits": [0, 1, 300, 301], "block_starts": points_about, "block_ends": points_about,
+               "balise_points": points_about, "balise_metres": metres_about}
 TRAIN_LIMITS = {"cls": [2, 3], "length": [0, 1, 1000, 1001], "tops": [0, 1, 300, 301], "rates": [0, 1, 200, 201],
-                "stops": None, "dwells": [0, 3600, 3601]}
+                "stops": points_about, "dwells": [0, 3600, 3601]}
 
 
 def base_file(rng):
@@ -22,7 +33,8 @@ def base_file(rng):
         return write_line(sample_line())
     if made < 0.3:
         return write_line(one_of_each_line(VERSION))
-    return write_line(random_line(rng, VERSION, 3, rng.choice([6, 12, 30]), rng.randint(1, 3)))
+    line = random_line(rng, VERSION, 3, rng.choice([6, 12, 30]), rng.randint(1, 3))
+    return write_line(with_some_balises(rng, line))
 
 
 def words_of(data):
@@ -87,6 +99,7 @@ def pairs_of_lists(line):
     """The parallel lists of a line, with the least gap from entry to entry of the first."""
     yield line.limit_points, line.limits, 1
     yield line.block_starts, line.block_ends, 1
+    yield line.balise_points, line.balise_metres, 1
     for train in line.trains:
         yield train.tops, train.rates, 1
         yield train.stops, train.dwells, 2
@@ -111,7 +124,8 @@ def put_to_limit(rng, data, other):
         return set_words(rng, data, other)
     holder, limits = rng.choice([(line, LINE_LIMITS)] + [(train, TRAIN_LIMITS) for train in line.trains])
     name = rng.choice(list(limits))
-    value = rng.choice(limits[name] or [0, 1, line.P - 2, line.P - 1, line.P]) % 65536
+    about = limits[name]
+    value = rng.choice(about(line) if callable(about) else about) % 65536
     present = getattr(holder, name)
     if isinstance(present, list):
         if present:
@@ -121,12 +135,34 @@ def put_to_limit(rng, data, other):
     return write_line(line)
 
 
+def change_count(rng, data, other):
+    """A count of the line put to another number; the lists stay as they are."""
+    line = parsed(data)
+    if not line:
+        return change_word(rng, data, other)
+    return write_line(line, **{rng.choice("KBQT"): rng.choice([0, 1, 2, 32, 33, 64, 65, 65535])})
+
+
 def fit_length(rng, data, other):
     """A train as long as rule 9 lets pass, or 1 m longer."""
     line = parsed(data)
     if not line or not line.trains or not line.block_ends:
         return change_word(rng, data, other)
     rng.choice(line.trains).length = max(0, line.L * (line.P - 1 - line.block_ends[-1]) + rng.randrange(2)) % 65536
+    return write_line(line)
+
+
+def move_balise(rng, data, other):
+    """A balise put to the place of the one before it or to the last point, or 1 m to either side; now and then as metres past
+    an earlier point."""
+    line = parsed(data)
+    if not line or not line.balise_points or line.L == 0:
+        return change_word(rng, data, other)
+    at = rng.randrange(len(line.balise_points))
+    before = line.balise_points[at - 1] * line.L + line.balise_metres[at - 1]
+    place = max(0, rng.choice([before, before, last_place(line)]) + rng.choice([-1, 0, 1]))
+    point = max(0, place // line.L - rng.choice([0, 0, 0, 1]))
+    line.balise_points[at], line.balise_metres[at] = point % 65536, (place - point * line.L) % 65536
     return write_line(line)
 
 
@@ -168,7 +204,7 @@ def join(rng, data, other):
 
 
 WAYS = [flip_bits, flip_bits, set_words, set_words, set_near_neighbour, change_word, swap_words, cut_end, cut_out, put_in, join,
-        grow, grow, fit_length] + [change_entry] * 5 + [put_to_limit] * 8
+        grow, grow, change_count, fit_length, move_balise, move_balise] + [change_entry] * 5 + [put_to_limit] * 8
 
 
 def damaged_file(rng, data, other):

@@ -16,6 +16,7 @@ from copy import deepcopy
 
 sys.dont_write_bytecode = True
 
+from balises import last_place, set_balises, with_some_balises  # noqa: E402
 from packed import PackedFiles  # noqa: E402
 from yardstick import Line, Refused, Train, accepted_line, broken_rules, check_call, number_of, parse  # noqa: E402
 from yardstick import record_call, sample_line, write_line  # noqa: E402
@@ -92,13 +93,13 @@ def a_line(rng, P, L, limits, blocks, cells, trains):
     """A line whose last block leaves room for a train of the given cells; a pair (bands, stops) for each train."""
     ends = rising(rng, blocks, 1, P - 1 - cells)
     starts = [0] + [rng.choice([end, rng.randrange(end, after)]) for end, after in zip(ends, ends[1:])]
-    return Line(
+    return with_some_balises(rng, Line(
         P, L, pick(rng, 0, MOST), pick(rng, 0, MOST),
         [0] + (rising(rng, limits - 1, 1, P - 2) if limits > 1 else []),
         [pick(rng, 1, 300) for _ in range(limits)],
         starts, ends,
         [a_train(rng, P, L, cells, bands, stops) for bands, stops in trains],
-    )
+    ))
 
 
 def any_line(rng, most_points, most_trains):
@@ -124,6 +125,7 @@ def roomy(rng, trains=3):
     line = a_line(rng, 900, 100, 3, 4, 700, [(rng.randint(3, 7), rng.randint(3, 31)) for _ in range(trains)])
     line.limit_points = [0, 300, 700]
     line.block_starts, line.block_ends = [0, 20, 50, 60], [20, 40, 60, 90]
+    line.balise_points, line.balise_metres = [0, 7, 60], [0, 0, 0]
     for t in line.trains:
         t.tops = rising(rng, len(t.tops), 2, 299)
         t.stops = rising(rng, len(t.stops), 5, 800, 5)
@@ -138,13 +140,17 @@ def put(numbers, i, value):
 
 def changes_of_line(line):
     """(the rule that is broken, or 0, and the change) for each number of the line at both sides of its limits."""
-    P = line.P
+    P, L = line.P, line.L
 
     def limit_points(values):
         return lambda l: (setattr(l, "limit_points", list(values)), setattr(l, "limits", [80] * len(values)))
 
     def blocks(starts, ends):
         return lambda l: (setattr(l, "block_starts", list(starts)), setattr(l, "block_ends", list(ends)))
+
+    def balises(*pairs):
+        points, metres = [point for point, _ in pairs], [metres for _, metres in pairs]
+        return lambda l: (setattr(l, "balise_points", list(points)), setattr(l, "balise_metres", list(metres)))
 
     for rule, value in ((3, 4097), (0, 4096), (3, MOST)):
         yield rule, lambda l, v=value: setattr(l, "P", v)
@@ -154,6 +160,8 @@ def changes_of_line(line):
         yield rule, limit_points(list(range(count)))
     for rule, count in ((3, 0), (0, 1), (0, 31), (0, 32), (3, 33), (3, 64), (3, 65), (3, 160)):
         yield rule, blocks(list(range(count)), list(range(1, count + 1)))
+    for rule, count in ((0, 0), (0, 1), (0, 63), (0, 64), (3, 65), (3, 66), (3, 320)):
+        yield rule, balises(*[(place // L, place % L) for place in range(count)])
     for rule, values in ((4, [1]), (4, [MOST]), (4, [1, 2, 3]), (4, [0, 0]), (4, [0, 5, 5]), (4, [0, 9, 5]), (4, [0, 5, 0]), (0, [0, 1, 2]),
                          (0, [0, P - 2]), (4, [0, P - 1]), (4, [0, P]), (4, [0, 7, MOST]), (4, [0, MOST, 0]), (4, [0, 256, 255]),
                          (4, [P - 1]), (0, [0, P - 3, P - 2]), (4, [0, P - 2, P - 1])):
@@ -167,6 +175,12 @@ def changes_of_line(line):
                                (6, [0, 4, 256], [4, 8, 255]), (9, [0], [P - 1]), (6, [0], [P]), (6, [0], [MOST]), (6, [0, 9], [MOST, 20]),
                                (6, [0, 0], [5, 6]), (6, [0, MOST], [5, 20])):
         yield rule, blocks(starts, ends)
+    for rule, *pairs in ((0, (3, L - 1)), (15, (3, L)), (15, (0, MOST)), (0, (P - 1, 0)), (15, (P - 1, 1)), (0, (P - 2, L - 1)), (15, (P - 2, L)),
+                         (15, (P, 0)), (15, (MOST, 0)), (15, (MOST, MOST)), (0, (3, 5), (3, 6)), (15, (3, 5), (3, 5)), (15, (3, 6), (3, 5)),
+                         (0, (3, L - 1), (4, 0)), (15, (3, L), (4, 0)), (15, (3, L), (4, 1)), (15, (4, 5), (3, 6)), (15, (256, 0), (255, 0)),
+                         (0, (0, 0), (0, 1), (P - 1, 0)), (15, (0, 0), (5, 9), (5, 9)), (15, (0, 1), (0, 0), (9, 0)), (15, (1, 0), (P, 0), (2, 0)),
+                         (0, (655, 35), (655, 36)), (15, (655, 36), (0, 0))):
+        yield rule, balises(*pairs)
 
 
 def changes_of_train(line, k):
@@ -250,7 +264,8 @@ def single_rules(cases, rng):
         for rule, change in changes:
             line = changed(base, change)
             broken = {number for number, _ in broken_rules(line)}
-            assert min(broken, default=0) == rule and broken <= {rule, 9}, (rule, broken_rules(line))     # 9 with an end beyond P - 1
+            assert number_of(accepted_line, write_line(line)) == rule, (rule, broken_rules(line))
+            assert broken <= {rule, 9, 15}, broken_rules(line)      # 9 with an end beyond P - 1, 15 with a step of 0
             cases.count("files with one rule broken, at a limit" if len(broken) == 1 else "other files at a limit")
             cases.line(line)
     for P in (0, 1, 2, 3, 4):           # 9 cannot be kept with fewer points than 3
@@ -264,7 +279,7 @@ def single_rules(cases, rng):
 
 
 def several_rules(cases, rng):
-    """Two rules broken in one file, the lower one before and behind the other; then more rules at once."""
+    """Two rules broken in one file, the first in checking order before and behind the other; then more rules at once."""
     base = roomy(rng, 4)
     by_rule = {}
     for change in list(changes_of_line(base)) + [c for k in range(4) for c in changes_of_train(base, k)]:
@@ -272,7 +287,7 @@ def several_rules(cases, rng):
     rules = [rule for rule in sorted(by_rule) if rule]
     for low in rules:
         for high in rules:
-            for _ in range(9):
+            for _ in range(6):
                 cases.line(changed(base, rng.choice(by_rule[high]), rng.choice(by_rule[low])))
     for rule in rules:
         for _ in range(6):
@@ -301,6 +316,17 @@ def several_rules(cases, rng):
                 cases.line(line)
 
 
+def balises(cases, rng):
+    """One balise and 64, at the first and the last point, each beside its neighbour, and just before and at the points."""
+    for L in (1, 2, 50, 100):
+        line = a_line(rng, 66, L, 2, 2, 3, [(1, 1)])
+        last = last_place(line)
+        points = range(0, last, L)
+        for places in ([0], [1], [last], [0, last], range(64), range(last - 63, last + 1), points[:64],
+                       [place + L - 1 for place in points[:64]], [place + off for place in points[:16] for off in (0, L - 1)]):
+            cases.line(kept(set_balises(line, sorted(set(places)))))
+
+
 def valid_files(cases, rng):
     for P in range(3, 40):
         cases.line(kept(any_line(rng, P, 3)))
@@ -313,11 +339,18 @@ def valid_files(cases, rng):
 
 
 def largest_files(cases, rng):
-    """The most of everything: 11,150 bytes."""
-    line = kept(a_line(rng, 4096, 1, 64, 32, 1000, [(8, 32)] * 64))
+    """The most of everything: 11,408 bytes."""
+    line = a_line(rng, 4096, 1, 64, 32, 1000, [(8, 32)] * 64)
+    kept(set_balises(line, rising(rng, 64, 0, 4095)))
     data = write_line(line)
+    assert len(data) == 11408
     cases.ask(data, sorted(set(range(64)) | {64, 65, 255, 256, 2 ** 16, 2 ** 16 + 63, 2 ** 32, 2 ** 32 + 63, TOP}))
-    for length in (265, 266, 267, 395, 396, 397, 398, 405, 406, len(data) - 168, len(data) - 160, len(data) - 1):
+    limits = 14                         # where each part begins
+    blocks = limits + 4 * 64
+    balises = blocks + 4 * 32
+    trains = balises + 4 * 64
+    for length in (blocks - 1, blocks, balises - 1, balises, balises + 1, trains - 1, trains, trains + 1, trains + 2, trains + 9, trains + 10,
+                   len(data) - 168, len(data) - 160, len(data) - 1):
         cases.ask(data[:length])
     cases.ask(data + b"\0")
     for k in (0, 31, 63):
@@ -327,36 +360,39 @@ def largest_files(cases, rng):
     cases.line(changed(line, lambda l: put(l.limits, 63, 301)))
     cases.line(changed(line, lambda l: put(l.limit_points, 63, 4095)))
     cases.line(changed(line, lambda l: put(l.block_ends, 31, 4096)))
+    cases.line(changed(line, lambda l: put(l.balise_points, 63, 4096)))
+    cases.line(changed(line, lambda l: put(l.balise_metres, 63, 1)))
     cases.line(changed(line, lambda l: l.trains.append(Train(0, 1, [1], [1], [], []))))
 
 
 def cut_files(cases, rng):
     """Files cut at every byte."""
     for _ in range(3):
-        data = write_line(any_line(rng, 12, 2))
+        data = write_line(set_balises(any_line(rng, 12, 2), range(3)))
         for length in range(max(len(data) - 150, 0), len(data)):
             cases.ask(data[:length], [0, TOP] if length % 2 else [0])
 
 
 def great_sizes(cases, rng):
     """Sizes of 65,535 and others that the file does not hold; files longer than any that is accepted."""
-    for words in (0, 1, 5, 6, 7, 13, 40, 400, 4000):
+    for words in (0, 1, 6, 7, 8, 13, 40, 400, 4000):
         cases.ask(b"\xff\xff" * words)
         cases.ask(b"\xff\xff" * words + b"\xff")
         cases.ask(bytes(2 * words))
         cases.ask(bytes(2 * words) + b"\0")
     for value in (MOST, 2 ** 15, 2 ** 14, 4097, 1000, 300):
         line = roomy(rng, 2)
-        for counts in ({"K": value}, {"B": value}, {"T": value}, {"K": value, "B": value}, {"K": value, "B": value, "T": value}):
+        for counts in ({"K": value}, {"B": value}, {"Q": value}, {"T": value}, {"K": value, "B": value}, dict.fromkeys("KBQT", value)):
             cases.line(line, **counts)
         for k in (0, 1):
             t = line.trains[k]
             for sizes in ((value, len(t.stops)), (len(t.tops), value), (value, value)):
                 cases.line(line, sizes={k: sizes})
-    for K, B, T, A, S in ((1000, 1, 1, 1, 0), (1, 1000, 1, 1, 0), (1, 1, 500, 0, 0), (1, 1, 1, 1000, 0), (1, 1, 1, 0, 1000), (1, 1, 2, 500, 500), (4000, 4000, 0, 0, 0),
-                          (65, 33, 65, 9, 33), (64, 32, 64, 9, 33), (0, 0, 0, 0, 0), (0, 0, 1, 0, 0), (0, 1, 0, 0, 0), (1, 0, 0, 0, 0)):
+    for K, B, Q, T, A, S in ((1000, 1, 0, 1, 1, 0), (1, 1000, 0, 1, 1, 0), (1, 1, 1000, 1, 1, 0), (1, 1, 0, 500, 0, 0), (1, 1, 0, 1, 1000, 0),
+                             (1, 1, 0, 1, 0, 1000), (1, 1, 0, 2, 500, 500), (4000, 4000, 0, 0, 0, 0), (65, 33, 65, 65, 9, 33), (64, 32, 64, 64, 9, 33),
+                             (0, 0, 0, 0, 0, 0), (0, 0, 0, 1, 0, 0), (0, 1, 0, 0, 0, 0), (1, 0, 0, 0, 0, 0), (0, 0, 1, 0, 0, 0)):
         trains = [Train(0, 1, list(range(1, A + 1)), [1] * A, [2 * i for i in range(S)], [0] * S) for _ in range(T)]
-        line = Line(4096, 100, 0, 0, list(range(K)), [1] * K, list(range(B)), list(range(1, B + 1)), trains)
+        line = set_balises(Line(4096, 100, 0, 0, list(range(K)), [1] * K, list(range(B)), list(range(1, B + 1)), trains), range(Q))
         cases.line(line)
         cases.ask(write_line(line)[:-1])
         cases.ask(write_line(line) + b"\1")
@@ -366,8 +402,9 @@ def any_bytes(cases, rng):
     for _ in range(60):
         cases.ask(rng.randbytes(rng.randrange(80)))
     for _ in range(250):                # small numbers, so that the sizes often fit the file
-        numbers = [rng.choice([0, 1, 1, 2, 2, 3, 4, 5, 9, 50, 100, 300, 301, 4096, MOST]) for _ in range(rng.randrange(6, 60))]
+        numbers = [rng.choice([0, 1, 1, 2, 2, 3, 4, 5, 9, 50, 100, 300, 301, 4096, MOST]) for _ in range(rng.randrange(7, 60))]
         numbers[2:4] = [rng.randrange(4), rng.randrange(4)]
+        numbers[6] = rng.randrange(4)
         cases.ask(struct.pack("<%dH" % len(numbers), *numbers) + bytes(rng.randrange(2)))
     for _ in range(200):                # one byte of a valid file altered
         data = bytearray(write_line(any_line(rng, 20, 3)))
@@ -378,7 +415,7 @@ def any_bytes(cases, rng):
 def main():
     rng = random.Random(20241115)
     cases = Cases()
-    for part in (sample, single_rules, several_rules, valid_files, largest_files, cut_files, great_sizes, any_bytes):
+    for part in (sample, single_rules, several_rules, balises, valid_files, largest_files, cut_files, great_sizes, any_bytes):
         part(cases, rng)
     cases.write("line_cases")
 

@@ -18,6 +18,7 @@ import sys
 
 sys.dont_write_bytecode = True
 
+from balises import last_place, set_balises  # noqa: E402
 from line_cases import a_line, changed, changes_of_line, changes_of_train, kept, pick, rising, roomy  # noqa: E402
 from packed import PackedFiles  # noqa: E402
 from yardstick import Hold, Line, Refused, Train, accepted_line, hold_call, number_of, padded, parse  # noqa: E402
@@ -159,6 +160,34 @@ def lower_limits(cases, rng):
             cases.line(kept(Line(80, L, 0, 0, points, limits, [0, 30], [30, 60], trains)))
 
 
+def balises_at_limits(cases, rng):
+    """Balises where trains leave lower limits: with spare metres left at a point, one 50 times as far back just suffices there. Then the
+    same with others before each, up to 64."""
+    for L in (1, 2, 7, 25, 50, 99, 100):
+        n, gap = 2 + 4 // L, max(30, 160 // L)
+        points = [place * gap for place in range(7)]
+        spares = (0, 1, 2)
+        trains = [quick_train(rng, n * L - 2 - spare, [], 1) for spare in spares]
+        line = Line(8 * gap, L, 0, 0, points, [200, 60, 250, 40, 240, 50, 260], [0, 2 * gap], [gap, 6 * gap], trains)
+        heads = [(points[2 * spare + 2] + n) * L for spare in spares]
+        places = [head - 50 * spare for head, spare in zip(heads, spares)]
+        for off in (-1, 0, 1):
+            cases.line(kept(set_balises(line, [place + off for place in places])))
+        cases.line(kept(set_balises(line, [*range(58)] + [place + off for place in places for off in (-1, 0)])))
+
+
+def balises(cases, rng):
+    """Many limits: without balises, with 64 of them in one stretch or spread, and with few that a train long misses."""
+    for P, L in ((70, 3), (90, 100), (400, 10), (1200, 100)):
+        line = a_line(rng, P, L, 64, 3, 3, [(3, 0), (3, 1), (2, 0)])
+        line.limits = [rng.choice([20, 60, 100, 200]) for _ in line.limits]
+        for t in line.trains:
+            t.tops, t.rates = rising(rng, len(t.tops), 90, 250), sorted((rng.randint(50, 200) for _ in t.tops), reverse=True)
+        last = last_place(line)
+        for places in ([], [0], [last], range(64), range(last // 2, last // 2 + 64), range(0, last + 1, last // 63), [last // 3, 2 * last // 3 + 1]):
+            cases.line(kept(set_balises(line, list(places)[:64])))
+
+
 def bands(cases, rng):
     """Eight bands under 64 limits; rates that fall, that rise, and that do not matter."""
     for P in (66, 70, 300):
@@ -211,16 +240,18 @@ def short_buffers(cases, rng):
 
 
 def broken_lines(rng, alone, twice):
-    """Lines that break rules 3 to 9: of each rule so many that break it alone, and so many with another."""
+    """Lines that break a rule from 3 on: of each rule so many that break it alone, and so many with another. One of these is 15, which is
+    checked before 7."""
     base = roomy(rng, 3)
     changes = {}
     for change in list(changes_of_line(base)) + [c for k in range(3) for c in changes_of_train(base, k)]:
         changes.setdefault(change[0], []).append(change[1])
-    for rule in range(3, 10):
+    rules = [rule for rule in sorted(changes) if rule]
+    for rule in rules:
         for change in rng.sample(changes[rule], min(alone, len(changes[rule]))):
             yield changed(base, change)
-        for _ in range(twice):
-            yield changed(base, rng.choice(changes[rng.randint(3, 9)]), rng.choice(changes[rule]))
+        for other in [15] + [rng.choice(rules) for _ in range(twice - 1)]:
+            yield changed(base, rng.choice(changes[other]), rng.choice(changes[rule]))
 
 
 def broken_rules(cases, rng):
@@ -231,7 +262,8 @@ def broken_rules(cases, rng):
 def main():
     rng = random.Random(20241116)
     cases = Cases(rng)
-    for part in (sample, all_sizes, stops, lower_limits, bands, longest_trains, extremes, many_trains, short_buffers, broken_rules):
+    for part in (sample, all_sizes, stops, lower_limits, balises_at_limits, balises, bands, longest_trains, extremes, many_trains, short_buffers,
+                 broken_rules):
         part(cases, rng)
     cases.write("run_cases")
 

@@ -117,9 +117,9 @@ def broken_rules(cases, rng):
 
 def bound(cases, rng):
     """Inputs of 16,384 bytes, somewhat less and more: whole files with bytes behind them, and cut ones."""
-    whole, cut = write_line(sample_line()), struct.pack("<6H", 7, 100, 64, 65535, 0, 0)
+    whole, cut = write_line(sample_line()), struct.pack("<7H", 7, 100, 64, 65535, 0, 0, 65535)
     large = write_line(kept(a_line(rng, 200, 100, 64, 32, 10, [(8, 32)] * 64)))
-    for data in (whole, cut, large, b"\xff\xff" * 6):
+    for data in (whole, cut, large, b"\xff\xff" * 7):
         for length in (16383, 16384, 16385, 16386, MOST_BYTES):
             cases.ask(data + bytes(length - len(data)))
     cases.ask(large)

@@ -18,7 +18,7 @@ SAMPLE = os.path.join(ROOT, "examples", "sample.txt")
 VALLEY = os.path.join(ROOT, "examples", "valley.txt")
 
 SAMPLE_TRAIN = [0, 100, 1, 2, 72, 50, 0, 6, 0, 0]
-SAMPLE_NUMBERS = [7, 100, 1, 2, 10, 20, 0, 72, 0, 2, 2, 5, 2] + 2 * SAMPLE_TRAIN
+SAMPLE_NUMBERS = [7, 100, 1, 2, 10, 20, 0, 0, 72, 0, 2, 2, 5, 2] + 2 * SAMPLE_TRAIN
 
 SIZES = "points 7\nstep 100\nset-up 10\nrelease 20\n"
 TRAIN = "train goods\nlength 600\n"
@@ -75,9 +75,9 @@ def random_train(dice):
 
 
 def random_file(dice):
-    limits, blocks, trains = dice.randrange(65), dice.randrange(33), dice.randrange(12)
-    numbers = [*random_numbers(dice, 2), limits, blocks, *random_numbers(dice, 2),
-               *random_numbers(dice, 2 * limits + 2 * blocks), trains]
+    limits, blocks, balises, trains = (dice.randrange(bound) for bound in (65, 33, 65, 12))
+    numbers = [*random_numbers(dice, 2), limits, blocks, *random_numbers(dice, 2), balises,
+               *random_numbers(dice, 2 * (limits + blocks + balises)), trains]
     for _ in range(trains):
         numbers += random_train(dice)
     return packed_numbers(numbers)
@@ -109,8 +109,8 @@ class RoundTrips(unittest.TestCase):
 
     def test_words_of_the_line_stand_in_any_order(self):
         dice = random.Random(3)
-        numbers = [7, 100, 1, 1, 10, 20, 0, 72, 0, 2, 0]
-        lines = ["points 7", "step 100", "set-up 10", "release 20", "limit 0 72", "block 0 2"]
+        numbers = [7, 100, 1, 1, 10, 20, 1, 0, 72, 0, 2, 3, 45, 0]
+        lines = ["points 7", "step 100", "set-up 10", "release 20", "limit 0 72", "block 0 2", "balise 3 45"]
         for _ in range(50):
             dice.shuffle(lines)
             self.assertEqual(unpacked_numbers(pack_text("\n".join(lines))), numbers)
@@ -121,15 +121,15 @@ class RoundTrips(unittest.TestCase):
         self.assertEqual(pack_text(one), pack_text(two))
 
     def test_lists_keep_their_order(self):
-        text = SIZES + "limit 9 1\nlimit 3 2\nblock 8 7\nblock 6 5\n"
+        text = SIZES + "limit 9 1\nlimit 3 2\nblock 8 7\nblock 6 5\nbalise 5 4\nbalise 3 2\n"
         self.assertEqual(unpacked_numbers(pack_text(text)),
-                         [7, 100, 2, 2, 10, 20, 9, 3, 1, 2, 8, 6, 7, 5, 0])
+                         [7, 100, 2, 2, 10, 20, 2, 9, 3, 1, 2, 8, 6, 7, 5, 5, 3, 4, 2, 0])
 
     def test_largest_lists(self):
-        text = SIZES + "limit 1 2\n" * 65535
-        data = pack_text(text)
-        self.assertEqual(len(data), 2 * (7 + 2 * 65535))
-        self.assertEqual(pack_text(show_text(data)), data)
+        for word in ("limit", "balise"):
+            data = pack_text(SIZES + f"{word} 1 2\n" * 65535)
+            self.assertEqual(len(data), 2 * (8 + 2 * 65535))
+            self.assertEqual(pack_text(show_text(data)), data)
 
 
 class Text(unittest.TestCase):
@@ -137,7 +137,7 @@ class Text(unittest.TestCase):
         for word, number in [("intercity", 0), ("stopping", 1), ("goods", 2), ("0", 0), ("2", 2),
                              ("3", 3), ("65535", 65535)]:
             data = pack_text(SIZES + f"train {word}\nlength 1\n")
-            self.assertEqual(unpacked_numbers(data)[7:], [number, 1, 0, 0])
+            self.assertEqual(unpacked_numbers(data)[8:], [number, 1, 0, 0])
 
     def test_show_names_the_classes(self):
         text = SIZES + "".join(f"train {number}\nlength 1\n" for number in range(4))
@@ -151,14 +151,27 @@ class Text(unittest.TestCase):
         for comment in ["block 2 5           # block 2\n", "train intercity     # train 2\n"]:
             self.assertIn(comment, text)
 
+    def test_balises_may_be_left_out(self):
+        self.assertEqual(unpacked_numbers(pack_text(SIZES)), [7, 100, 0, 0, 10, 20, 0, 0])
+        self.assertNotIn("\nbalise", show_text(pack_text(SIZES)))
+
+    def test_balises_stand_behind_the_blocks(self):
+        text = "balise 0 40\n" + SIZES + "limit 0 72\nbalise 6 0\nblock 0 2\n" + TRAIN
+        numbers = [7, 100, 1, 1, 10, 20, 2, 0, 72, 0, 2, 0, 6, 40, 0, 1, 2, 600, 0, 0]
+        self.assertEqual(unpacked_numbers(pack_text(text)), numbers)
+        shown = show_text(packed_numbers(numbers))
+        self.assertIn("# balise POINT METRES\nbalise 0 40\nbalise 6 0\n", shown)
+        self.assertTrue(shown.index("\nblock 0 2") < shown.index("\nbalise 0 40") < shown.index("\ntrain goods"))
+
     def test_leading_zeros_and_long_zeros(self):
         data = pack_text("points 007\nstep -0\nset-up " + "0" * 5000 + "9\nrelease 65535\n")
-        self.assertEqual(unpacked_numbers(data), [7, 0, 0, 0, 9, 65535, 0])
+        self.assertEqual(unpacked_numbers(data), [7, 0, 0, 0, 9, 65535, 0, 0])
 
     def test_files_that_the_calculator_refuses_can_be_written(self):
-        text = "points 0\nstep 65535\nset-up 0\nrelease 0\nblock 9 3\ntrain 7\nlength 0\nstop 9 9\nstop 9 9\n"
+        text = ("points 0\nstep 65535\nset-up 0\nrelease 0\nblock 9 3\nbalise 8 65535\nbalise 8 7\n"
+                "train 7\nlength 0\nstop 9 9\nstop 9 9\n")
         self.assertEqual(unpacked_numbers(pack_text(text)),
-                         [0, 65535, 0, 1, 0, 0, 9, 3, 1, 7, 0, 0, 2, 9, 9, 9, 9])
+                         [0, 65535, 0, 1, 0, 0, 2, 9, 3, 8, 8, 65535, 7, 1, 7, 0, 0, 2, 9, 9, 9, 9])
 
     def test_marks_of_other_systems(self):
         plain = SIZES + TRAIN
@@ -171,7 +184,7 @@ class Text(unittest.TestCase):
         start = linefile.HELP.index("  points 7")
         end = linefile.HELP.index("  linefile pack")
         numbers = unpacked_numbers(pack_text(linefile.HELP[start:end]))
-        self.assertEqual(numbers, SAMPLE_NUMBERS[:12] + [1] + SAMPLE_TRAIN)
+        self.assertEqual(numbers, SAMPLE_NUMBERS[:13] + [1] + SAMPLE_TRAIN)
 
 
 TEXT_FAULTS = [
@@ -181,11 +194,13 @@ TEXT_FAULTS = [
     ("points +7", 1, "'+7' is not a whole number"),
     ("points \u0667", 1, "'\u0667' is not a whole number"),
     ("\n\nlimit 0 72km/h", 3, "'72km/h' is not a whole number"),
+    (SIZES + "balise 3 0.5", 5, "'0.5' is not a whole number"),
     (SIZES + "train 1.5", 5, "'1.5' is not a whole number"),
     ("points 65536", 1, "65536 does not fit 16 bits (0 to 65535)"),
     ("points -1", 1, "-1 does not fit 16 bits (0 to 65535)"),
     ("points 1" + "0" * 5000, 1, "0 does not fit 16 bits (0 to 65535)"),
     (SIZES + "limit 0 99999", 5, "99999 does not fit 16 bits (0 to 65535)"),
+    (SIZES + "balise 3 -1", 5, "-1 does not fit 16 bits (0 to 65535)"),
     (SIZES + "train 65536", 5, "65536 does not fit 16 bits (0 to 65535)"),
     ("", 1, "the description of the line ends here without 'points' and 'step' and 'set-up' and 'release'"),
     (SIZES.replace("step 100\n", "") + "limit 0 5\n\n", 4,
@@ -202,20 +217,24 @@ TEXT_FAULTS = [
     (SIZES + "train freight", 5, "unknown class 'freight'; write intercity, stopping, goods or a number"),
     ("points", 1, "too few numbers; write: points COUNT"),
     ("limit 0 # 72", 1, "too few numbers; write: limit POINT KMH"),
+    ("balise 3", 1, "too few numbers; write: balise POINT METRES"),
     (SIZES + "train", 5, "too few numbers; write: train CLASS"),
     (SIZES + TRAIN + "stop 5", 7, "too few numbers; write: stop POINT DWELL"),
     ("step 100 m", 1, "too many numbers; write: step METRES"),
     ("block 0 2 5", 1, "too many numbers; write: block START END"),
+    ("balise 3 45 m", 1, "too many numbers; write: balise POINT METRES"),
     (SIZES + "train goods 600", 5, "too many numbers; write: train CLASS"),
     (SIZES + TRAIN + "band 1 2 3", 7, "too many numbers; write: band TOP RATE"),
     (SIZES + "length 100\n" + TRAIN, 5, "'length' outside a train; first open one: train CLASS"),
     ("band 1 2", 1, "'band' outside a train; first open one: train CLASS"),
     ("stop 1 2", 1, "'stop' outside a train; first open one: train CLASS"),
     (SIZES + TRAIN + "limit 0 72", 7, "'limit' belongs to the line and stands before the first train"),
+    (SIZES + TRAIN + "balise 3 45", 7, "'balise' belongs to the line and stands before the first train"),
     (SIZES + TRAIN + "points 7", 7, "'points' belongs to the line and stands before the first train"),
 ]
 
-for _word, _text in [("limit", SIZES), ("block", SIZES), ("band", SIZES + TRAIN), ("stop", SIZES + TRAIN)]:
+for _word, _text in [("limit", SIZES), ("block", SIZES), ("balise", SIZES),
+                     ("band", SIZES + TRAIN), ("stop", SIZES + TRAIN)]:
     TEXT_FAULTS.append((_text + f"{_word} 0 0\n" * 65536, _text.count("\n") + 65536,
                         f"more than 65535 of '{_word}' do not fit the file"))
 TEXT_FAULTS.append((SIZES + TRAIN * 65536, 4 + 2 * 65535 + 1,
@@ -283,12 +302,15 @@ class FaultsOfTheFile(unittest.TestCase):
                              f" {len(data) - 1}, but the file has {len(data) + extra} bytes")
 
     def test_the_place_of_the_cut_is_named(self):
-        data = packed_numbers([7, 100, 1, 1, 0, 0, 0, 72, 0, 2, 1, 0, 100, 1, 1, 72, 50, 6, 0])
-        places = {0: "the sizes should fill bytes 0 to 11", 12: "the limit points should fill bytes 12 to 13",
-                  15: "the limits should", 16: "the block starts should", 18: "the block ends should",
-                  20: "the number of trains should", 22: "the sizes of train 1 of 1 should fill bytes 22 to 29",
-                  30: "the band tops of train 1 of 1 should", 32: "the rates of train 1 of 1 should",
-                  34: "the stop points of train 1 of 1 should", 37: "the dwells of train 1 of 1 should"}
+        data = packed_numbers([7, 100, 1, 1, 0, 0, 1, 0, 72, 0, 2, 3, 45, 1, 0, 100, 1, 1, 72, 50, 6, 0])
+        places = {0: "the sizes should fill bytes 0 to 13", 13: "the sizes should fill bytes 0 to 13",
+                  14: "the limit points should fill bytes 14 to 15",
+                  17: "the limits should", 18: "the block starts should", 20: "the block ends should",
+                  22: "the balise points should fill bytes 22 to 23",
+                  25: "the metres of the balises should fill bytes 24 to 25",
+                  26: "the number of trains should", 28: "the sizes of train 1 of 1 should fill bytes 28 to 35",
+                  36: "the band tops of train 1 of 1 should", 38: "the rates of train 1 of 1 should",
+                  40: "the stop points of train 1 of 1 should", 43: "the dwells of train 1 of 1 should"}
         for size, place in places.items():
             self.assertIn(place, self.fault_of(data[:size]))
 
@@ -369,9 +391,9 @@ class Commands(unittest.TestCase):
 
 
 class Examples(unittest.TestCase):
-    def test_sample_is_the_sample_of_document_01(self):
+    def test_sample_is_the_sample_of_the_documents(self):
         data = run_tool("pack", SAMPLE).stdout
-        self.assertEqual(len(data), 66)
+        self.assertEqual(len(data), 68)
         self.assertEqual(data, packed_numbers(SAMPLE_NUMBERS))
 
     def test_examples_round_trip(self):
@@ -385,6 +407,7 @@ class Examples(unittest.TestCase):
         metres = (line.sizes["points"] - 1) * line.sizes["step"]
         self.assertTrue(29_000 <= metres <= 32_000)
         self.assertTrue(10 <= len(line.pairs["block"]) <= 20)
+        self.assertTrue(10 <= len(line.pairs["balise"]) <= 30)
         self.assertTrue(6 <= len(line.trains) <= 10)
         self.assertEqual({train.train_class for train in line.trains}, {0, 1, 2})
 
@@ -398,6 +421,12 @@ class Examples(unittest.TestCase):
         self.assertTrue(all(1 <= limit <= 300 for _, limit in limits))
         self.assertEqual([start for start, _ in blocks], [0] + [end for _, end in blocks[:-1]])
         self.assert_rising([end for _, end in blocks], 1, points - 1)
+
+    def test_valley_keeps_the_rules_of_the_balises(self):
+        line = linefile.read_text(read(VALLEY).decode())
+        points, step, balises = line.sizes["points"], line.sizes["step"], line.pairs["balise"]
+        self.assertTrue(all(metres < step for _, metres in balises))
+        self.assert_rising([point * step + metres for point, metres in balises], 1, (points - 1) * step)
 
     def test_valley_keeps_the_rules_of_the_trains(self):
         line = linefile.read_text(read(VALLEY).decode())

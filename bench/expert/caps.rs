@@ -1,5 +1,6 @@
 //! The points where the cap of a train changes.
 
+use crate::balises::{Balises, Tail};
 use plain::line::Line;
 
 const MOST_LIMITS: usize = 64;
@@ -35,7 +36,7 @@ impl Limits {
 /// The cap as the train moves on.
 pub struct Cap<'a> {
     limits: &'a Limits,
-    cells: u32,
+    tail: Tail<'a>,
     top: u16,
     /// The last of the lowest limits under the train.
     fixing: usize,
@@ -45,8 +46,8 @@ pub struct Cap<'a> {
 }
 
 impl<'a> Cap<'a> {
-    pub fn new(limits: &'a Limits, cells: usize, top: usize) -> Self {
-        let mut cap = Cap { limits, cells: cells as u32, top: top as u16, fixing: 0, kmh: 0, until: 0 };
+    pub fn new(limits: &'a Limits, balises: &'a Balises, length: usize, top: usize) -> Self {
+        let mut cap = Cap { limits, tail: Tail::new(balises, length), top: top as u16, fixing: 0, kmh: 0, until: 0 };
         cap.fix(0);
         cap
     }
@@ -55,7 +56,7 @@ impl<'a> Cap<'a> {
         self.fixing = limit;
         let Limits { points, kmh, lower } = self.limits;
         self.kmh = kmh[limit].min(self.top);
-        self.until = points[lower[limit] as usize].min(points[limit + 1] + self.cells);
+        self.until = points[lower[limit] as usize].min(self.tail.passes(points[limit + 1]));
     }
 
     /// Moves to the next change: the head comes to a lower limit, or the tail leaves the fixing one.

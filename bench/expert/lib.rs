@@ -1,6 +1,7 @@
 //! The sheet of a file with every shortcut that leaves its figures equal, to show how far the others are from the limit. Opening
 //! a file is the plain program's. Nothing is proved here.
 
+mod balises;
 mod blocks;
 mod caps;
 mod cells;
@@ -9,6 +10,7 @@ mod pieces;
 mod ramps;
 mod times;
 
+use balises::Balises;
 use blocks::Blocks;
 use caps::Limits;
 use curves::Curves;
@@ -21,6 +23,7 @@ use std::ops::Range;
 /// Lists that keep their memory from call to call, so that nothing is allocated or cleared.
 #[derive(Default)]
 struct Lists {
+    balises: Balises,
     curves: Curves,
     pieces: Vec<Piece>,
     known: Vec<Known>,
@@ -48,7 +51,7 @@ impl Lists {
         }
         let first = self.pieces.len();
         let mut run = Run::new(line, train, &mut self.curves, &mut self.pieces);
-        run.drive(line, train, limits);
+        run.drive(line, train, limits, &self.balises);
         run.set_times(line.points as u32 - 1);
         let pieces = first..self.pieces.len();
         self.known.push(Known { length, record, pieces: pieces.clone() });
@@ -63,12 +66,13 @@ pub fn rows(file: &[u8], starts: &mut [u64], runs: &mut [u64], blocks: &mut [u64
         return Err(11);
     }
     LISTS.with_borrow_mut(|lists| {
+        lists.balises.take(&line);
         lists.curves.clear(line.step);
         lists.pieces.clear();
         lists.known.clear();
         let limits = Limits::of(&line);
         let mut sheet = Blocks::of(&line);
-        let mut at = 14 + 4 * (line.limits.len() + line.block_ends.len());
+        let mut at = 16 + 4 * (line.limits.len() + line.block_ends.len() + line.balise_points.len());
         for (k, train) in line.trains.iter().enumerate() {
             let end = at + 8 + 4 * (train.tops.len() + train.stops.len());
             let pieces = lists.pieces(file, at..end, &line, &train, &limits);

@@ -1,6 +1,7 @@
 //! The run as a short list of pieces: steady ones, climbs and brakings. A climb starts only from a cap or a stop, and a braking
 //! ends only there.
 
+use crate::balises::Balises;
 use crate::caps::{Cap, Limits};
 use crate::cells::squared;
 use crate::curves::Curves;
@@ -52,9 +53,9 @@ impl<'a> Run<'a> {
         Run { first: pieces.len(), pieces, curves, loss, climbs, brakings }
     }
 
-    pub fn drive(&mut self, line: &Line, train: &Train, limits: &Limits) {
+    pub fn drive(&mut self, line: &Line, train: &Train, limits: &Limits, balises: &Balises) {
         let points = line.points as u32;
-        let mut cap = Cap::new(limits, line.cells(train), train.tops.last().unwrap_or(0));
+        let mut cap = Cap::new(limits, balises, train.length, train.tops.last().unwrap_or(0));
         let mut point = 0;
         for (stop, dwell) in train.stops.iter().zip(train.dwells.iter()) {
             let stop = stop as u32;

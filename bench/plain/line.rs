@@ -1,4 +1,4 @@
-//! The line file: taken apart without copying, and checked by rules 1 to 10.
+//! The line file: taken apart without copying, and checked by rules 1 to 10 and 15.
 
 use crate::Refusal;
 use std::ops::{Range, RangeInclusive};
@@ -53,6 +53,8 @@ pub struct Line<'a> {
     pub limits: Words<'a>,
     pub block_starts: Words<'a>,
     pub block_ends: Words<'a>,
+    pub balise_points: Words<'a>,
+    pub balise_metres: Words<'a>,
     pub trains: Trains<'a>,
 }
 
@@ -104,8 +106,8 @@ impl<'a> Reader<'a> {
     }
 
     fn line(&mut self) -> Result<Line<'a>, Refusal> {
-        let head = self.words(6)?;
-        let (limits, blocks) = (head.get(2), head.get(3));
+        let head = self.words(7)?;
+        let (limits, blocks, balises) = (head.get(2), head.get(3), head.get(6));
         let line = Line {
             points: head.get(0),
             step: head.get(1),
@@ -115,6 +117,8 @@ impl<'a> Reader<'a> {
             limits: self.words(limits)?,
             block_starts: self.words(blocks)?,
             block_ends: self.words(blocks)?,
+            balise_points: self.words(balises)?,
+            balise_metres: self.words(balises)?,
             trains: {
                 let count = self.words(1)?.get(0);
                 Trains { file: self.file, at: self.at, count }
@@ -150,7 +154,7 @@ impl Train<'_> {
 }
 
 impl<'a> Line<'a> {
-    /// The file's line with all its trains, if rules 1 to 9 are kept.
+    /// The file's line with all its trains, if rules 1 to 9 and 15 are kept.
     pub fn open(file: &'a [u8]) -> Result<Self, Refusal> {
         let line = Reader { file, at: 0 }.line()?;
         match line.first_broken() {
@@ -163,6 +167,11 @@ impl<'a> Line<'a> {
         usize::try_from(k).ok().and_then(|k| self.trains.iter().nth(k)).ok_or(10)
     }
 
+    /// The place of balise j in metres from point 0.
+    pub fn balise(&self, j: usize) -> usize {
+        self.balise_points.get(j) * self.step + self.balise_metres.get(j)
+    }
+
     /// The train's length in cells, rounded up.
     pub fn cells(&self, train: &Train) -> usize {
         train.length.div_ceil(self.step)
@@ -173,12 +182,14 @@ impl<'a> Line<'a> {
         (train.braking_rate() * 2592 * self.step) as u32
     }
 
+    /// The first broken rule in checking order.
     fn first_broken(&self) -> Option<Refusal> {
-        let rules: [(Refusal, fn(&Self) -> bool); 7] = [
+        let rules: [(Refusal, fn(&Self) -> bool); 8] = [
             (3, Self::sizes_kept),
             (4, Self::limit_points_kept),
             (5, |line| line.limits.all_within(1..=300)),
             (6, Self::blocks_kept),
+            (15, Self::balises_kept),
             (7, |line| line.trains.iter().all(|train| train.bands_kept())),
             (8, |line| line.trains.iter().all(|train| train.stops_kept(line.points))),
             (9, Self::room_kept),
@@ -191,6 +202,7 @@ impl<'a> Line<'a> {
             && (1..=100).contains(&self.step)
             && (1..=64).contains(&self.limits.len())
             && (1..=32).contains(&self.block_ends.len())
+            && self.balise_points.len() <= 64
             && (1..=64).contains(&self.trains.len())
             && self.trains.iter().all(|train| train.sizes_kept())
     }
@@ -210,6 +222,19 @@ impl<'a> Line<'a> {
             after = end;
         }
         self.block_starts.get(0) == 0
+    }
+
+    fn balises_kept(&self) -> bool {
+        let last = (self.points - 1) * self.step;
+        let mut least = 0;
+        for j in 0..self.balise_points.len() {
+            let place = self.balise(j);
+            if place < least || last < place {
+                return false;
+            }
+            least = place + 1;
+        }
+        self.balise_metres.all_within(0..=self.step - 1)
     }
 
     fn room_kept(&self) -> bool {

@@ -48,34 +48,73 @@ impl Bands {
     }
 }
 
-/// The lowest limit from the cell of the tail to the cell of the head, as the train moves on.
+/// No line has so many points.
+const BEYOND: usize = usize::MAX;
+
+/// The lowest limit from the cell of the tail to the cell of the head, as the train moves on. The tail is taken where it
+/// surely is: 2 m further back, and 2 % of the distance since the latest balise.
 struct Under<'a> {
-    points: Words<'a>,
-    limits: Words<'a>,
-    cells: usize,
+    line: &'a Line<'a>,
+    length: usize,
+    /// The limits that the head and the tail are in.
     head: usize,
     tail: usize,
+    /// How many balises the head has passed, and the place of the latest one, or 0.
+    passed: usize,
+    balise: usize,
     lowest: usize,
+    /// The point at which the head or the tail next passes something.
+    until: usize,
 }
 
 impl<'a> Under<'a> {
-    fn new(line: &Line<'a>, cells: usize) -> Self {
-        let (points, limits) = (line.limit_points, line.limits);
-        Under { points, limits, cells, head: 0, tail: 0, lowest: limits.get(0) }
+    fn new(line: &'a Line<'a>, length: usize) -> Self {
+        Under { line, length, head: 0, tail: 0, passed: 0, balise: 0, lowest: 0, until: 0 }
     }
 
     fn move_to(&mut self, point: usize) {
-        let before = (self.head, self.tail);
-        while self.head + 1 < self.points.len() && self.points.get(self.head + 1) <= point {
+        if point < self.until {
+            return;
+        }
+        while self.to_balise() <= point {
+            self.balise = self.line.balise(self.passed);
+            self.passed += 1;
+        }
+        while self.to_limit() <= point {
             self.head += 1;
         }
-        while self.tail < self.head && self.points.get(self.tail + 1) + self.cells <= point {
+        while self.to_leave() <= point {
             self.tail += 1;
         }
-        if (self.head, self.tail) != before {
-            let covered = (self.tail..=self.head).map(|j| self.limits.get(j));
-            self.lowest = covered.min().unwrap_or(0);
+        let covered = (self.tail..=self.head).map(|j| self.line.limits.get(j));
+        self.lowest = covered.min().unwrap_or(0);
+        self.until = self.to_balise().min(self.to_limit()).min(self.to_leave());
+    }
+
+    /// The point at which the head is at the next balise or past it.
+    fn to_balise(&self) -> usize {
+        if self.passed == self.line.balise_points.len() {
+            return BEYOND;
         }
+        self.line.balise(self.passed).div_ceil(self.line.step)
+    }
+
+    /// The point at which the head comes to the next limit.
+    fn to_limit(&self) -> usize {
+        if self.head + 1 == self.line.limits.len() {
+            return BEYOND;
+        }
+        self.line.limit_points.get(self.head + 1)
+    }
+
+    /// The point at which the tail surely leaves its limit, if the head passes no balise before. With 50 times each
+    /// distance the 2 % are whole.
+    fn to_leave(&self) -> usize {
+        if self.tail == self.head {
+            return BEYOND;
+        }
+        let place = self.line.limit_points.get(self.tail + 1) * self.line.step;
+        (50 * (place + self.length + 2) - self.balise).div_ceil(49 * self.line.step)
     }
 }
 
@@ -114,7 +153,7 @@ impl<'a> Stops<'a> {
 fn sweep_forward(line: &Line, train: &Train, speeds: &mut [u32]) {
     let bands = Bands::of(line, train);
     let top = train.tops.last().unwrap_or(0);
-    let mut under = Under::new(line, line.cells(train));
+    let mut under = Under::new(line, train.length);
     let mut stops = Stops::new(train);
     let mut before = u32::MAX;
     for (point, speed) in speeds.iter_mut().enumerate() {

@@ -1,2 +1,4 @@
 pub mod Lowest
+pub mod Past
 pub mod Covering
+pub mod Walk

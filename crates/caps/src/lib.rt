@@ -1,136 +1,114 @@
-// The cap speed of a train under way: the lowest of the limits that it covers and its last band's top, as its head and its tail pass
-// along the line. Of the arrays the first `count` entries are in use, but no more than 64.
-use widths::size;
+// The cap speed of a train under way: the lowest of the limits that its grown length covers and its last band's top. The head, the tail and the
+// balises only move forward along the line. Of each array the first entries are in use, up to their count and no more than 64.
+mod numbers;
+mod places;
+
+use numbers::least;
+use numbers::less;
+use numbers::lesser;
+pub use places::Places;
+pub use places::balise_places;
+use places::head_for;
+use places::last_place;
+pub use places::limit_places;
+use places::passed;
+use places::place_ahead;
+use places::point_at;
+use places::rear_at;
+use values::place_of;
 use widths::wide;
 ghost use mathlib.Core.Path.{_≡_};
-ghost use Prim.Native.Nat.{_-_, _<_, min};
-ghost use Rattle.caps.specs.Caps.{inUse, nextBegun, nextPoint, lowestLimit, covering, coveredAt};
+ghost use Rattle.caps.specs.Caps.{lowestLimit, covering, coveredAt};
 
-// The limits from the tail's to the head's; `lowest` is the lowest of them and the last band's top, in km/h. They are the same at all points
-// before `until`.
+// What does not change along the line: the counts in use, the step and the train's length in m, and its last band's top in km/h.
+pub struct Course {
+    pub limit_count: usize,
+    pub balise_count: usize,
+    pub step: u16,
+    pub length: u16,
+    pub top: u32,
+}
+
+// How many limits the head and the tail have reached, and how many balises the head. `lowest` is the lowest of the limits covered and the last
+// band's top, in km/h. All are the same at the points before `until`.
 pub struct Covered {
     pub head: usize,
     pub tail: usize,
+    pub balises: usize,
     pub lowest: u32,
     pub until: usize,
 }
 
-// a less b, or 0 where b is greater.
-fn less(a: usize, b: usize) -> usize
-    ensures { λ r. ⌜ r ≡ a - b ⌝ }
-{
-    if a < b { 0 } else { a - b }
+impl Covered {
+    // Before point 0: the first limit alone is reached, and nothing is known of any point.
+    pub const START: Covered = Covered {
+        head: 1,
+        tail: 1,
+        balises: 0,
+        lowest: 0,
+        until: 0,
+    };
 }
 
-fn lesser(a: usize, b: usize) -> usize
-    ensures { λ r. ⌜ r ≡ min a b ⌝ }
-{
-    if a < b { a } else { b }
-}
-
-fn lower(a: u32, b: u32) -> u32
-    ensures { λ r. ⌜ r ≡ min a b ⌝ }
-{
-    if a < b { a } else { b }
-}
-
-// The limit that holds in cell c, where limit `at` held in the cell before it or holds there.
-fn next_begun(points: &[u16; 64], count: usize, at: usize, c: usize) -> usize
-    ensures { λ r. ⌜ r ≡ nextBegun (now (points .entry)) (inUse count) at c ⌝ }
-{
-    let end = lesser(count, 64);
-    if at < end {
-        let next = at + 1;
-        if next < end {
-            if size(points[next]) <= c {
-                return next;
-            }
-        }
-    }
-    at
-}
-
-// The point at which the limit after limit `at` begins; beyond every point where there is none.
-fn next_point(points: &[u16; 64], count: usize, at: usize) -> usize
-    ensures { λ r. ⌜ (r ≡ nextPoint (now (points .entry)) (inUse count) at) × (r < 65537) ⌝ }
-{
-    let end = lesser(count, 64);
-    if at < end {
-        let next = at + 1;
-        if next < end {
-            return size(points[next]);
-        }
-    }
-    65536
-}
-
-// The lowest of the top and the limits from `tail` to `head`; 0 where the array has no entry `head`.
+// The lowest of the top and the limits from the tail's to the head's.
 fn lowest_limit(limits: &[u16; 64], top: u32, tail: usize, head: usize) -> u32
     ensures { λ r. ⌜ r ≡ lowestLimit (now (limits .entry)) top tail head ⌝ }
 {
-    if 64 <= head {
-        return 0;
-    }
+    let first = less(tail, 1);
     let mut lowest = top;
-    let mut left = less(head + 1, tail);
+    let mut left = less(least(head, 64), first);
     while 0 < left {
         left -= 1;
-        lowest = lower(wide(limits[tail + left]), lowest);
+        lowest = lesser(wide(limits[first + left]), lowest);
     }
     lowest
 }
 
-// The limits from `tail` to `head` under a train of n cells.
+// What is covered once the head and the tail have reached so many limits and the head so many balises.
 fn cover<'a>(
-    points: &'a [u16; 64],
+    limits_at: &'a [u32; 64],
     limits: &'a [u16; 64],
-    count: usize,
-    top: u32,
-    n: usize,
+    balises_at: &'a [u32; 64],
+    course: Course,
     head: usize,
     tail: usize,
+    balises: usize,
 ) -> Covered
-    ensures { λ r. ⌜ r ≡ covering (now (points .entry)) (now (limits .entry)) (inUse count) top n head tail ⌝ }
+    ensures { λ r. ⌜ r ≡ covering (now («limits_at» .entry)) (now (limits .entry)) (now («balises_at» .entry)) course head tail balises ⌝ }
 {
-    let by_head = next_point(points, count, head);
-    let by_tail = next_point(points, count, tail) + lesser(n, 65536);
+    let from = last_place(balises_at, balises);
+    let by_tail = head_for(
+        course.length,
+        from,
+        place_ahead(limits_at, course.limit_count, tail),
+    );
+    let by_head = place_ahead(limits_at, course.limit_count, head);
+    let by_balise = place_ahead(balises_at, course.balise_count, balises);
     Covered {
         head,
         tail,
-        lowest: lowest_limit(limits, top, tail, head),
-        until: lesser(by_head, by_tail),
+        balises,
+        lowest: lowest_limit(limits, course.top, tail, head),
+        until: point_at(lesser(by_head, lesser(by_balise, by_tail)), course.step),
     }
 }
 
-// The limits covered with the head at point 0. `n` is the train's length in cells.
-pub fn first_covered<'a>(
-    points: &'a [u16; 64],
-    limits: &'a [u16; 64],
-    count: usize,
-    top: u32,
-    n: usize,
-) -> Covered
-    ensures { λ r. ⌜ r ≡ covering (now (points .entry)) (now (limits .entry)) (inUse count) top n 0 0 ⌝ }
-{
-    cover(points, limits, count, top, n, 0, 0)
-}
-
-// The limits covered with the head at point i, from those at the point before.
+// What is covered with the head at a point, from what was covered before.
 pub fn covered_at<'a>(
-    points: &'a [u16; 64],
+    limits_at: &'a [u32; 64],
     limits: &'a [u16; 64],
-    count: usize,
-    top: u32,
-    n: usize,
-    i: usize,
+    balises_at: &'a [u32; 64],
+    course: Course,
+    point: u16,
     before: Covered,
 ) -> Covered
-    ensures { λ r. ⌜ r ≡ coveredAt (now (points .entry)) (now (limits .entry)) (inUse count) top n i before ⌝ }
+    ensures { λ r. ⌜ r ≡ coveredAt (now («limits_at» .entry)) (now (limits .entry)) (now («balises_at» .entry)) course point before ⌝ }
 {
-    if i < before.until {
-        return before;
-    }
-    let head = next_begun(points, count, before.head, i);
-    let tail = next_begun(points, count, before.tail, less(i, n));
-    cover(points, limits, count, top, n, head, tail)
+    let x = place_of(point, 0, course.step);
+    let balises = passed(balises_at, course.balise_count, before.balises, x);
+    let from = last_place(balises_at, balises);
+    let rear = rear_at(course.length, from, x);
+    let head = passed(limits_at, course.limit_count, before.head, x);
+    let tail = passed(limits_at, course.limit_count, before.tail, rear);
+    cover(limits_at, limits, balises_at, course, head, tail, balises)
 }

@@ -30,7 +30,7 @@ fn write_diagram(line: Line, train: Train, bytes: &mut [u8])
     write_points(points, wide(line.step), &speeds, &times, bytes);
 }
 
-// The diagram call: rules 1 to 10 for train k of a file, then 11 where the lent bytes have no room for every point. The bytes carry the
+// The diagram call: the file's rules and 10 for train k of a file, then 11 where the lent bytes have no room for every point. The bytes carry the
 // run's own figures, and those behind them keep their values. A refusal leaves every byte as it came.
 pub fn diagram(file: &[u8], k: u64, bytes: &mut [u8]) -> WriteAnswer
     ensures answer { λ r. ⌜

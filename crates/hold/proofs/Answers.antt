@@ -38,7 +38,7 @@ module _ (l : Line) (t : Train) (ns nt : ℕ) where
   unfolding heldOn
   held-accepted {r} e z q = rw (eq-eqb (runRefusalOn l t ns nt) 0 (sym e ∙ z), z, q)
 
-  -- an accepted train on a line keeps rules 3 to 9, and both buffers are long enough
+  -- an accepted train on a line keeps the file's rules from 3 on, and both buffers are long enough
   pub accepted-on : runRefusalOn l t ns nt ≡ 0 → (refusal (rulesOn l t) ≡ 0) × (l .points ≤ ns) × (l .points ≤ nt)
   accepted-on z = go (eqb (refusal (rulesOn l t)) 0) refl
     where

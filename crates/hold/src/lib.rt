@@ -68,7 +68,7 @@ fn hold_record(line: Line, train: Train, speeds: &[u32], times: &[u64]) -> HoldR
     hold
 }
 
-// The hold of a decoded train on a decoded line: rules 3 to 9 and 11, whatever the two hold. The buffers end as after `run::run_train`.
+// The hold of a decoded train on a decoded line: the file's rules from 3 on and 11, whatever the two hold. The buffers end as after `run::run_train`.
 pub fn hold_train(line: Line, train: Train, speeds: &mut [u32], times: &mut [u64]) -> HoldAnswer
     ensures answer { λ r. ⌜ asHoldAnswer r ≡ heldOn (asLine line) (asTrain train) (length (now (speeds .entry))) (length (now (times .entry))) ⌝ }
     ensures speeds { λ r. ⌜ now (speeds .exit) ≡ speedsOn (asLine line) (asTrain train) (now (speeds .entry)) (now (times .entry)) ⌝ }
@@ -87,7 +87,7 @@ pub fn hold_train(line: Line, train: Train, speeds: &mut [u32], times: &mut [u64
     }
 }
 
-// The hold call: rules 1 to 11 for train k of a file. The buffers end as after the run call.
+// The hold call: the file's rules, 10 and 11 for train k of a file. The buffers end as after the run call.
 pub fn hold(file: &[u8], k: u64, speeds: &mut [u32], times: &mut [u64]) -> HoldAnswer
     ensures answer { λ r. ⌜ asHoldAnswer r ≡ held (now (file .entry)) k (length (now (speeds .entry))) (length (now (times .entry))) ⌝ }
     ensures speeds { λ r. ⌜ now (speeds .exit) ≡ speedsAfter (now (file .entry)) k (now (speeds .entry)) (now (times .entry)) ⌝ }

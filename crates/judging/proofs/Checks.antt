@@ -1,15 +1,18 @@
 -- What rule 3 says of a decoded line and train. Assumes nothing.
 use Prim.Native.Nat.{ℕ, _≤_}
-use mathlib.Core.Bool.{true}
+use mathlib.Core.Bool.{true, false}
 use mathlib.Core.Path.{_≡_}
 use native.Mathlib.Omega.{arith}
-use Rattle.rules.specs.Refusal.{lineSizes, sizesOn}
+use Rattle.rules.specs.Count.{_and_}
+use Rattle.rules.specs.Line as rules
+use Rattle.rules.specs.Refusal.{lineSizes, sizesOn, bandsRule, stopsRule, lastBlockRule}
 use Rattle.rules.proofs.Count.{and-left, and-right, length-row}
 use Rattle.rules.proofs.Rules.{rule-3-line, rule-3-train}
 use Rattle.values.specs.declared.decoded.Line.{Line}
 use Rattle.values.specs.declared.decoded.Train.{Train}
 use Rattle.values.specs.Values.{asLine, asTrain}
 use Rattle.judging.specs.Sized.{Sized, Counted}
+use Rattle.judging.specs.Kept.{keptOn}
 
 pub line-sized : (l : Line) (trains : ℕ) → lineSizes (asLine l) trains ≡ true → Sized l
 line-sized l trains e =
@@ -29,3 +32,13 @@ both-sized l t e =
     let a : t .«band_count» ≤ 8 = rw length-row at (q .bands-most) in
     let s : t .«stop_count» ≤ 32 = rw length-row at (q .stops-most) in
     (line-sized l 1 (and-left _ _ e), record { bands = omega arith; stops = omega arith })
+
+-- what a train keeps, by whether it keeps rule 3
+module _ (l : rules.Line) (t : rules.Train) where
+  pub none-kept : sizesOn l t ≡ false → keptOn l t ≡ record { sizes = false; bands = false; stops = false; «last_block» = false }
+  unfolding _and_
+  none-kept e = rw e
+
+  pub sized-kept : sizesOn l t ≡ true → keptOn l t ≡ record { sizes = true; bands = bandsRule t; stops = stopsRule l t; «last_block» = lastBlockRule l t }
+  unfolding _and_
+  sized-kept e = rw e

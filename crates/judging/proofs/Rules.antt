@@ -13,7 +13,8 @@ use Rattle.values.specs.declared.decoded.Line.{Line}
 use Rattle.values.specs.declared.decoded.Train.{Train}
 use Rattle.values.specs.Values.{asLine, asTrain}
 
-pub line-numbers : (l : Line) (trains : ℕ) → lineSizes (asLine l) trains ≡ lineNumbers (l .points) (l .step) (l .«limit_count») (l .«block_count») trains
+pub line-numbers : (l : Line) (trains : ℕ) →
+    lineSizes (asLine l) trains ≡ lineNumbers (l .points) (l .step) (l .«limit_count») (l .«block_count») (l .«balise_count») trains
 unfolding lineSizes
 line-numbers l trains = simp length-row
 
@@ -55,7 +56,7 @@ last-block-numbers l t h =
 -- rule 3, from the numbers that the code holds
 pub line-sizes-of :
     (l : Line) (trains : ℕ) {r : Bool} {p s : ℕ} → p ≡ l .points → s ≡ l .step →
-    r ≡ lineNumbers p s (l .«limit_count») (l .«block_count») trains → r ≡ lineSizes (asLine l) trains
+    r ≡ lineNumbers p s (l .«limit_count») (l .«block_count») (l .«balise_count») trains → r ≡ lineSizes (asLine l) trains
 line-sizes-of l trains e f g = rw line-numbers (g ∙ rw (e, f))
 
 pub train-sizes-of :

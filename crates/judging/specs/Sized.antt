@@ -1,4 +1,4 @@
--- What the code of rules 4 to 9 rests on. No rule of the paper is said here.
+-- What the code of the rules after 3 rests on. No rule of the paper is said here.
 use Prim.Native.Nat.{_≤_}
 use Rattle.values.specs.declared.decoded.Line.{Line}
 use Rattle.values.specs.declared.decoded.Train.{Train}

@@ -1,4 +1,4 @@
-// Rules 3 to 6, of a line.
+// Rules 3 to 6 and 15, of a line.
 use crate::numbers::all_within;
 use crate::numbers::below_by;
 use crate::numbers::both;
@@ -6,6 +6,7 @@ use crate::numbers::is_within;
 use crate::numbers::is_zero;
 use crate::numbers::rises_by;
 use crate::numbers::unless_kept;
+use balises::balises_kept;
 use values::Line;
 use widths::size;
 ghost use mathlib.Core.List.{_∷_};
@@ -14,16 +15,26 @@ ghost use Rattle.rules.specs.Refusal.{rule, refusal, lineNumbers, lineSizes, li
 ghost use Rattle.values.specs.Values.{asLine};
 ghost use Rattle.judging.specs.Sized.{Sized};
 
-// Rule 3 of P, L, K, B and T.
-pub fn line_sizes(points: usize, step: usize, limits: usize, blocks: usize, trains: usize) -> bool
-    ensures { λ r. ⌜ r ≡ lineNumbers points step limits blocks trains ⌝ }
+// Rule 3 of P, L, K, B, the count of balises and T.
+pub fn line_sizes(
+    points: usize,
+    step: usize,
+    limits: usize,
+    blocks: usize,
+    balises: usize,
+    trains: usize,
+) -> bool
+    ensures { λ r. ⌜ r ≡ lineNumbers points step limits blocks balises trains ⌝ }
 {
-    let counts = both(is_within(blocks, 1, 32), is_within(trains, 1, 64));
-    let rest = both(
-        is_within(step, 1, 100),
-        both(is_within(limits, 1, 64), counts),
+    let last = both(is_within(balises, 0, 64), is_within(trains, 1, 64));
+    let counts = both(
+        is_within(limits, 1, 64),
+        both(is_within(blocks, 1, 32), last),
     );
-    both(is_within(points, 3, 4096), rest)
+    both(
+        is_within(points, 3, 4096),
+        both(is_within(step, 1, 100), counts),
+    )
 }
 
 // Rule 3 of a line and T.
@@ -32,7 +43,14 @@ pub(crate) fn line_sized(line: Line, trains: usize) -> bool
 {
     let points = size(line.points);
     let step = size(line.step);
-    line_sizes(points, step, line.limit_count, line.block_count, trains)
+    line_sizes(
+        points,
+        step,
+        line.limit_count,
+        line.block_count,
+        line.balise_count,
+        trains,
+    )
 }
 
 // Rule 4.
@@ -78,16 +96,21 @@ fn blocks_kept(line: Line) -> bool
     )
 }
 
-// The first broken rule of 4 to 6, or 0.
+// The first broken rule of 4, 5, 6 and 15, or 0.
 pub(crate) fn first_of_line(line: Line) -> u64
     requires { ⌜ Sized line ⌝ }
     ensures { λ r. ⌜ r ≡ refusal (lineRules (asLine line)) ⌝ }
 {
-    let later = unless_kept(5, limits_kept(line), unless_kept(6, blocks_kept(line), 0));
+    let last = unless_kept(15, balises_kept(line), 0);
+    let later = unless_kept(
+        5,
+        limits_kept(line),
+        unless_kept(6, blocks_kept(line), last),
+    );
     unless_kept(4, limit_points_kept(line), later)
 }
 
-// The number of refusal of a line with so many trains by rules 3 to 6, or 0, whatever the line holds.
+// The number of refusal of a line with so many trains by rules 3 to 6 and 15, or 0, whatever the line holds.
 pub fn line_refusal(line: Line, trains: usize) -> u64
     ensures { λ r. ⌜ r ≡ refusal (rule 3 (lineSizes (asLine line) trains) ∷ lineRules (asLine line)) ⌝ }
 {

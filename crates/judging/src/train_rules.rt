@@ -9,11 +9,11 @@ use values::Line;
 use values::Train;
 use values::train_cells;
 use widths::size;
-ghost use mathlib.Core.List.{_∷_};
 ghost use mathlib.Core.Path.{_≡_};
-ghost use Rattle.rules.specs.Refusal.{rule, refusal, trainNumbers, sizesOn, bandsRule, stopsRule, lastBlockRule, oneTrainRules};
+ghost use Rattle.rules.specs.Refusal.{refusal, trainNumbers, sizesOn, bandsRule, stopsRule, lastBlockRule, trainRulesBy};
 ghost use Rattle.values.specs.Values.{asLine, asTrain};
 ghost use Rattle.judging.specs.Sized.{Sized, Counted};
+ghost use Rattle.judging.specs.Kept.{keptOn, bothKeep};
 
 // Rule 3 of a class, a length, A and S.
 pub fn train_sizes(class: usize, length: usize, bands: usize, stops: usize) -> bool
@@ -77,25 +77,61 @@ fn last_block_kept(line: Line, train: Train) -> bool
     end + cells <= size(line.points) - 1
 }
 
-// The first broken rule of 7 to 9, or 0.
-pub(crate) fn first_of_train(line: Line, train: Train) -> u64
-    requires { ⌜ Sized line × Counted train ⌝ }
-    ensures { λ r. ⌜ r ≡ refusal (oneTrainRules (asLine line) (asTrain train)) ⌝ }
-{
-    let last = unless_kept(9, last_block_kept(line, train), 0);
-    unless_kept(
-        7,
-        bands_kept(train),
-        unless_kept(8, stops_kept(line, train), last),
-    )
+// Which of the rules 3 and 7 to 9 a train keeps, or each of some trains.
+pub struct TrainKept {
+    pub sizes: bool,
+    pub bands: bool,
+    pub stops: bool,
+    pub last_block: bool,
 }
 
-// The number of refusal of a train on a line by rules 3 and 7 to 9, or 0, whatever the two hold.
-pub fn train_refusal(line: Line, train: Train) -> u64
-    ensures { λ r. ⌜ r ≡ refusal (rule 3 (sizesOn (asLine line) (asTrain train)) ∷ oneTrainRules (asLine line) (asTrain train)) ⌝ }
+impl TrainKept {
+    pub const ALL: TrainKept = TrainKept {
+        sizes: true,
+        bands: true,
+        stops: true,
+        last_block: true,
+    };
+
+    pub const NONE: TrainKept = TrainKept {
+        sizes: false,
+        bands: false,
+        stops: false,
+        last_block: false,
+    };
+}
+
+// What a train on a line keeps, whatever the two hold; nothing where it does not keep rule 3.
+pub fn train_kept(line: Line, train: Train) -> TrainKept
+    ensures { λ r. ⌜ r ≡ keptOn (asLine line) (asTrain train) ⌝ }
 {
     if !sized_on(line, train) {
-        return 3;
+        return TrainKept::NONE;
     }
-    first_of_train(line, train)
+    TrainKept {
+        sizes: true,
+        bands: bands_kept(train),
+        stops: stops_kept(line, train),
+        last_block: last_block_kept(line, train),
+    }
+}
+
+// What two trains keep, or two sets of trains.
+pub fn both_keep(a: TrainKept, b: TrainKept) -> TrainKept
+    ensures { λ r. ⌜ r ≡ bothKeep a b ⌝ }
+{
+    TrainKept {
+        sizes: both(a.sizes, b.sizes),
+        bands: both(a.bands, b.bands),
+        stops: both(a.stops, b.stops),
+        last_block: both(a.last_block, b.last_block),
+    }
+}
+
+// The first broken rule of 7 to 9, or 0.
+pub fn first_of_trains(kept: TrainKept) -> u64
+    ensures { λ r. ⌜ r ≡ refusal (trainRulesBy (kept .bands) (kept .stops) (kept .«last_block»)) ⌝ }
+{
+    let last = unless_kept(9, kept.last_block, 0);
+    unless_kept(7, kept.bands, unless_kept(8, kept.stops, last))
 }

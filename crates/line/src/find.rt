@@ -39,7 +39,7 @@ fn not_there(number: u64) -> Found
     }
 }
 
-// Rules 1 to 10.
+// The file's rules and 10.
 pub(crate) fn find_train(file: &[u8], k: u64) -> Found
     ensures { λ r. ⌜ r ≡ foundFor (now (file .entry)) k ⌝ }
 {

@@ -21,14 +21,14 @@ pub struct RecordPlace {
     pub length: u64,
 }
 
-// The number of refusal of a file by rules 1 to 9, or 0.
+// The number of refusal of a file by the file's rules, 1 to 9 and 15, or 0.
 pub fn check_file(file: &[u8]) -> u64
     ensures { λ r. ⌜ r ≡ fileRefusal (now (file .entry)) ⌝ }
 {
     open_file(file).number
 }
 
-// The number of refusal of a file and a train number by rules 1 to 10, or 0.
+// The number of refusal of a file and a train number by the file's rules and 10, or 0.
 pub fn check_train(file: &[u8], k: u64) -> u64
     ensures { λ r. ⌜ r ≡ trainRefusal (now (file .entry)) k ⌝ }
 {

@@ -35,7 +35,7 @@ fn refused_file(number: u64) -> FileAnswer
     }
 }
 
-// Rules 1 to 9.
+// The file's rules.
 pub fn open_file(file: &[u8]) -> FileAnswer
     ensures { λ r. ⌜ r ≡ openedFile (now (file .entry)) ⌝ }
 {
@@ -57,7 +57,7 @@ pub fn open_file(file: &[u8]) -> FileAnswer
     }
 }
 
-// Rules 1 to 10.
+// The file's rules and 10.
 pub fn open_train(file: &[u8], k: u64) -> TrainAnswer
     ensures { λ r. ⌜ r ≡ openedTrain (now (file .entry)) k ⌝ }
 {

@@ -4,7 +4,7 @@ use mathlib.Core.List.{List}
 use mathlib.Core.Path.{_≡_, ap₂, _∙_}
 use Rattle.rules.specs.Count.{row, entry}
 use Rattle.rules.specs.File.{words, pointCount, stepLength, limitCount, blockCount, setUpTime, releaseTime}
-use Rattle.rules.specs.File.{limitPointsAt, limitsAt, blockStartsAt, blockEndsAt}
+use Rattle.rules.specs.File.{baliseCount, limitPointsAt, limitsAt, blockStartsAt, blockEndsAt, balisePointsAt, baliseMetresAt}
 use Rattle.rules.specs.File.{classNumber, lengthNumber, bandCount, stopCount, topsAt, ratesAt, stopsAt, dwellsAt}
 use Rattle.rules.specs.Line.{lineOf, trainAt}
 use Rattle.rules.proofs.Fill.{row-padded}
@@ -19,11 +19,12 @@ module _ (bytes : List ℕ) where
   array-read e p q = e ∙ ap₂ (numbers bytes) p q
 
   pub line-decoded :
-      {points step setUp release limits blocks : ℕ} {points′ limits′ starts ends : List ℕ} →
+      {points step setUp release limits blocks balises : ℕ} {points′ limits′ starts ends balisePoints metres : List ℕ} →
       points ≡ pointCount bytes → step ≡ stepLength bytes → setUp ≡ setUpTime bytes → release ≡ releaseTime bytes →
-      limits ≡ limitCount bytes → blocks ≡ blockCount bytes →
+      limits ≡ limitCount bytes → blocks ≡ blockCount bytes → balises ≡ baliseCount bytes →
       points′ ≡ numbers bytes (limitPointsAt bytes) (limitCount bytes) → limits′ ≡ numbers bytes (limitsAt bytes) (limitCount bytes) →
       starts ≡ numbers bytes (blockStartsAt bytes) (blockCount bytes) → ends ≡ numbers bytes (blockEndsAt bytes) (blockCount bytes) →
+      balisePoints ≡ numbers bytes (balisePointsAt bytes) (baliseCount bytes) → metres ≡ numbers bytes (baliseMetresAt bytes) (baliseCount bytes) →
       _≡_ {A = Line}
       (record {
         points = points;
@@ -36,9 +37,12 @@ module _ (bytes : List ℕ) where
         «block_count» = blocks;
         «block_starts» = starts;
         «block_ends» = ends;
+        «balise_count» = balises;
+        «balise_points» = balisePoints;
+        «balise_metres» = metres;
       })
       (decodedLine bytes)
-  line-decoded p s u r k b f v e n = rw (p, s, u, r, k, b, f, v, e, n)
+  line-decoded p s u r k b o f v e n i m = rw (p, s, u, r, k, b, o, f, v, e, n, i, m)
 
   pub train-decoded :
       {class length bands stops : ℕ} {tops rates points dwells : List ℕ} →
@@ -65,10 +69,17 @@ module _ (bytes : List ℕ) where
   unfolding words
   in-use place h = row-padded _ h
 
-  pub line-is : limitCount bytes ≤ 64 → blockCount bytes ≤ 64 → asLine (decodedLine bytes) ≡ lineOf bytes
+  pub line-is : limitCount bytes ≤ 64 → blockCount bytes ≤ 64 → baliseCount bytes ≤ 64 → asLine (decodedLine bytes) ≡ lineOf bytes
   unfolding lineOf
-  line-is k b =
-      rw (in-use (limitPointsAt bytes) k, in-use (limitsAt bytes) k, in-use (blockStartsAt bytes) b, in-use (blockEndsAt bytes) b)
+  line-is k b o =
+      rw (
+        in-use (limitPointsAt bytes) k,
+        in-use (limitsAt bytes) k,
+        in-use (blockStartsAt bytes) b,
+        in-use (blockEndsAt bytes) b,
+        in-use (balisePointsAt bytes) o,
+        in-use (baliseMetresAt bytes) o,
+      )
 
   pub train-is : bandCount bytes 0 ≤ 64 → stopCount bytes 0 ≤ 64 → asTrain (decodedTrain bytes) ≡ trainAt bytes 0
   unfolding trainAt

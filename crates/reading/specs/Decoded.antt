@@ -3,7 +3,7 @@ use Prim.Native.Nat.{ℕ}
 use mathlib.Core.List.{List}
 use Rattle.rules.specs.Count.{padded}
 use Rattle.rules.specs.File.{words, pointCount, stepLength, limitCount, blockCount, setUpTime, releaseTime}
-use Rattle.rules.specs.File.{limitPointsAt, limitsAt, blockStartsAt, blockEndsAt, trainCount, trainsAt}
+use Rattle.rules.specs.File.{baliseCount, limitPointsAt, limitsAt, blockStartsAt, blockEndsAt, balisePointsAt, baliseMetresAt, trainCount, trainsAt}
 use Rattle.rules.specs.File.{classNumber, lengthNumber, bandCount, stopCount, topsAt, ratesAt, stopsAt, dwellsAt}
 use Rattle.values.specs.declared.decoded.Line.{Line}
 use Rattle.values.specs.declared.decoded.Train.{Train}
@@ -26,6 +26,9 @@ decodedLine file =
       «block_count» = blockCount file;
       «block_starts» = numbers file (blockStartsAt file) (blockCount file);
       «block_ends» = numbers file (blockEndsAt file) (blockCount file);
+      «balise_count» = baliseCount file;
+      «balise_points» = numbers file (balisePointsAt file) (baliseCount file);
+      «balise_metres» = numbers file (baliseMetresAt file) (baliseCount file);
     }
 
 abbrev pub decodedFile : List ℕ → DecodedFile

@@ -11,6 +11,8 @@ pub record IsLinePlaces (file : List ℕ) (p : LinePlaces) : Type 0 where
   pub limits : p .limits ≡ places.limitsAt file
   pub blockStarts : p .«block_starts» ≡ places.blockStartsAt file
   pub blockEnds : p .«block_ends» ≡ places.blockEndsAt file
+  pub balisePoints : p .«balise_points» ≡ places.balisePointsAt file
+  pub baliseMetres : p .«balise_metres» ≡ places.baliseMetresAt file
   pub trainCount : p .«train_count» ≡ places.trainCountAt file
   pub trains : p .trains ≡ places.trainsAt file
   pub most : places.trainsAt file < 1000000

@@ -1,4 +1,5 @@
 // The line and a train decoded from bytes.
+use crate::places::BALISE_COUNT;
 use crate::places::BAND_COUNT;
 use crate::places::BLOCK_COUNT;
 use crate::places::CLASS_NUMBER;
@@ -35,6 +36,7 @@ pub fn decode_file(file: &[u8]) -> DecodedFile
 {
     let limits = word_at(file, LIMIT_COUNT);
     let blocks = word_at(file, BLOCK_COUNT);
+    let balises = word_at(file, BALISE_COUNT);
     let places = line_places(file);
     let line = Line {
         points: word_at(file, POINT_COUNT),
@@ -47,6 +49,9 @@ pub fn decode_file(file: &[u8]) -> DecodedFile
         block_count: size(blocks),
         block_starts: words_at(file, places.block_starts, blocks),
         block_ends: words_at(file, places.block_ends, blocks),
+        balise_count: size(balises),
+        balise_points: words_at(file, places.balise_points, balises),
+        balise_metres: words_at(file, places.balise_metres, balises),
     };
     DecodedFile {
         line,

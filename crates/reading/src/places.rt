@@ -16,7 +16,9 @@ pub(crate) const SET_UP_TIME: usize = 8;
 
 pub(crate) const RELEASE_TIME: usize = 10;
 
-const SIZES_END: usize = 12;
+pub(crate) const BALISE_COUNT: usize = 12;
+
+const SIZES_END: usize = 14;
 
 // The sizes of a train record.
 pub(crate) const CLASS_NUMBER: usize = 0;
@@ -35,6 +37,8 @@ pub(crate) struct LinePlaces {
     pub limits: usize,
     pub block_starts: usize,
     pub block_ends: usize,
+    pub balise_points: usize,
+    pub balise_metres: usize,
     pub train_count: usize,
     pub trains: usize,
 }
@@ -53,13 +57,17 @@ pub(crate) fn line_places(file: &[u8]) -> LinePlaces
 {
     let limits = 2 * size(word_at(file, LIMIT_COUNT));
     let blocks = 2 * size(word_at(file, BLOCK_COUNT));
+    let balises = 2 * size(word_at(file, BALISE_COUNT));
     let block_starts = SIZES_END + limits + limits;
-    let train_count = block_starts + blocks + blocks;
+    let balise_points = block_starts + blocks + blocks;
+    let train_count = balise_points + balises + balises;
     LinePlaces {
         limit_points: SIZES_END,
         limits: SIZES_END + limits,
         block_starts,
         block_ends: block_starts + blocks,
+        balise_points,
+        balise_metres: balise_points + balises,
         train_count,
         trains: train_count + 2,
     }

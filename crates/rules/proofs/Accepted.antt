@@ -1,82 +1,70 @@
 -- The order of the rules in the file calls, and what an accepted file, or an accepted train on a line, is. Assumes nothing.
-use Prim.Native.Nat.{ℕ, zero, suc, _≤_, _<_}
+use Prim.Native.Nat.{ℕ, _≤_, _<_}
 use mathlib.Core.Bool.{Bool, true, false, cond}
 use mathlib.Core.List.{List, [], _∷_, _++_}
 use mathlib.Core.Logic.{_↔_}
-use mathlib.Core.Path.{_≡_, sym, _∙_}
+use mathlib.Core.Path.{_≡_, _∙_}
 use native.Mathlib.Omega.{arith}
 use lib.ListN.{length}
 use borrow.Author.Tests.{le-leb, lt-leb, leb-true, ltb-true, lt-ltb, le-ltb}
-use Rattle.rules.specs.Count.{every}
 use Rattle.rules.specs.File.{trainCount, announcedEnd}
 use Rattle.rules.specs.Line.{Line, Train, lineOf, trainOf}
-use Rattle.rules.specs.Refusal.{Rule, rule, refusal, lowerOf, whole, nothingAfter, trainSizes, sizesRule, sizesOn}
-use Rattle.rules.specs.Refusal.{lengthRules, lineRules, trainTests, decided, oneTrainRules, everyTrainRules, fileRules, rulesOn}
+use Rattle.rules.specs.Refusal.{Rule, rule, refusal, whole, nothingAfter, trainSizes, sizesRule, sizesOn}
+use Rattle.rules.specs.Refusal.{lengthRules, lineRules, trainRulesBy, oneTrainRules, everyTrainRules, fileRules, rulesOn}
 use Rattle.rules.specs.Refusal.{trainThere, trainRules, buffersLong, runRules}
 use Rattle.rules.specs.Calls.{fileRefusal, trainRefusal, runRefusal}
-use Rattle.rules.specs.Admitted.{Rule3Line, Rule4, Rule5, Rule6, Rule7, Rule8, Rule9, Parallel, Admitted}
-use Rattle.rules.specs.Meaning.{IsLowestBroken}
-use Rattle.rules.proofs.Count.{below-suc, and-left, and-right, and-both, every-at}
+use Rattle.rules.specs.Admitted.{Rule3Line, Rule4, Rule5, Rule6, Rule15, Rule7, Rule8, Rule9, Parallel, Admitted}
+use Rattle.rules.specs.Meaning.{IsFirstBroken}
+use Rattle.rules.proofs.Count.{and-left, and-right, and-both, every-at, every-all}
 use Rattle.rules.proofs.File.{parallel}
-use Rattle.rules.proofs.Rules.{rule-3-line, rule-3-train, rule-4, rule-5, rule-6, rule-7, rule-8, rule-9}
+use Rattle.rules.proofs.Rules.{rule-3-line, one-train, rule-3-train, rule-4, rule-5, rule-6, rule-15, rule-7, rule-8, rule-9}
 use Rattle.rules.proofs.Refusal.{refusal-none, refusal-cons, Positive, head-broken, head-kept, head-accepted, append-refused}
-use Rattle.rules.proofs.Refusal.{append-kept, append-accepted, refusal-most, lowest-broken, RisingTests}
-use Rattle.rules.proofs.Refusal.{Beyond, beyond-decided, decided-both, decided-true, lower-none, lower-zero}
+use Rattle.rules.proofs.Refusal.{append-kept, append-accepted, refusal-most, first-broken}
 
 -- ---- the rules of a line, of a train, and of all trains
 
-pub line-rules : (l : Line) → (refusal (lineRules l) ≡ 0) ↔ (Rule4 l × Rule5 l × Rule6 l)
+module _ {bands stops lastBlock : Bool} where
+  three-kept : refusal (trainRulesBy bands stops lastBlock) ≡ 0 → (bands ≡ true) × (stops ≡ true) × (lastBlock ≡ true)
+  three-kept z =
+      let (k₇, z₇) = head-accepted _ _ _ (omega arith) z in
+      let (k₈, z₈) = head-accepted _ _ _ (omega arith) z₇ in
+      let (k₉, z₉) = head-accepted _ _ _ (omega arith) z₈ in
+      (k₇, k₈, k₉)
+
+  kept-three : bands ≡ true → stops ≡ true → lastBlock ≡ true → refusal (trainRulesBy bands stops lastBlock) ≡ 0
+  kept-three p q r = head-kept _ _ _ p ∙ head-kept _ _ _ q ∙ head-kept _ _ _ r ∙ refusal-none
+
+pub line-rules : (l : Line) → (refusal (lineRules l) ≡ 0) ↔ (Rule4 l × Rule5 l × Rule6 l × Rule15 l)
 line-rules l = (
   λ z.
       let (k₄, z₄) = head-accepted _ _ _ (omega arith) z in
       let (k₅, z₅) = head-accepted _ _ _ (omega arith) z₄ in
       let (k₆, z₆) = head-accepted _ _ _ (omega arith) z₅ in
-      (rule-4 l .0 k₄, rule-5 l .0 k₅, rule-6 l .0 k₆),
+      let (k₁₅, z₁₅) = head-accepted _ _ _ (omega arith) z₆ in
+      (rule-4 l .0 k₄, rule-5 l .0 k₅, rule-6 l .0 k₆, rule-15 l .0 k₁₅),
   λ r.
-      head-kept _ _ _ (rule-4 l .1 (r .0)) ∙ head-kept _ _ _ (rule-5 l .1 (r .1)) ∙ head-kept _ _ _ (rule-6 l .1 (r .2)) ∙ refusal-none,
+      head-kept _ _ _ (rule-4 l .1 (r .0)) ∙ head-kept _ _ _ (rule-5 l .1 (r .1)) ∙ head-kept _ _ _ (rule-6 l .1 (r .2))
+      ∙ head-kept _ _ _ (rule-15 l .1 (r .3))
+      ∙ refusal-none,
 )
 
 pub train-rules : (l : Line) (t : Train) → (refusal (oneTrainRules l t) ≡ 0) ↔ (Rule7 t × Rule8 l t × Rule9 l t)
-unfolding decided
 train-rules l t = (
   λ z.
-      let (k₇, z₇) = head-accepted _ _ _ (omega arith) z in
-      let (k₈, z₈) = head-accepted _ _ _ (omega arith) z₇ in
-      let (k₉, z₉) = head-accepted _ _ _ (omega arith) z₈ in
+      let (k₇, k₈, k₉) = three-kept z in
       (rule-7 t .0 k₇, rule-8 l t .0 k₈, rule-9 l t .0 k₉),
-  λ r.
-      head-kept _ _ _ (rule-7 t .1 (r .0)) ∙ head-kept _ _ _ (rule-8 l t .1 (r .1)) ∙ head-kept _ _ _ (rule-9 l t .1 (r .2)) ∙ refusal-none,
+  λ r. kept-three (rule-7 t .1 (r .0)) (rule-8 l t .1 (r .1)) (rule-9 l t .1 (r .2)),
 )
 
-tests-rise : RisingTests 0 trainTests
-tests-rise = omega arith
+module _ (l : Line) (train : ℕ → Train) (n : ℕ) where
+  pub trains-accepted : refusal (everyTrainRules l train n) ≡ 0 → (k : ℕ) → k < n → refusal (oneTrainRules l (train k)) ≡ 0
+  trains-accepted z k h =
+      let (k₇, k₈, k₉) = three-kept z in
+      kept-three (every-at _ n k₇ k h) (every-at _ n k₈ k h) (every-at _ n k₉ k h)
 
--- no number of these is 3
-pub one-beyond : (l : Line) (t : Train) → Beyond 3 (refusal (oneTrainRules l t))
-one-beyond l t = beyond-decided 3 trainTests (omega arith) (λ r. r .kept l t)
-
-pub every-beyond : (l : Line) (train : ℕ → Train) (n : ℕ) → Beyond 3 (refusal (everyTrainRules l train n))
-every-beyond l train n = beyond-decided 3 trainTests (omega arith) (λ r. every n (λ k. r .kept l (train k)))
-
-module _ (l : Line) (train : ℕ → Train) where
-  pub trains-none : refusal (everyTrainRules l train 0) ≡ 0
-  unfolding every
-  trains-none = decided-true trainTests
-
-  -- one train more
-  pub trains-more : (n : ℕ) → refusal (everyTrainRules l train (suc n)) ≡ lowerOf (refusal (everyTrainRules l train n)) (refusal (oneTrainRules l (train n)))
-  unfolding every
-  trains-more n = decided-both 0 trainTests tests-rise (λ r. every n (λ k. r .kept l (train k))) (λ r. r .kept l (train n))
-
-  pub trains-accepted : (n : ℕ) → refusal (everyTrainRules l train n) ≡ 0 → (k : ℕ) → k < n → refusal (oneTrainRules l (train k)) ≡ 0
-  trains-accepted zero z k h = absurd (omega arith)
-  trains-accepted (suc n) z k h =
-      let both = lower-none _ _ (sym (trains-more n) ∙ z) in
-      below-suc (λ k. refusal (oneTrainRules l (train k)) ≡ 0) n (trains-accepted n (both .0)) (both .1) k h
-
-  pub trains-kept : (n : ℕ) → ((k : ℕ) → k < n → refusal (oneTrainRules l (train k)) ≡ 0) → refusal (everyTrainRules l train n) ≡ 0
-  trains-kept zero h = trains-none
-  trains-kept (suc n) h = trains-more n ∙ lower-zero (trains-kept n (λ k l. h k (omega arith))) (h n (omega arith))
+  pub trains-kept : ((k : ℕ) → k < n → refusal (oneTrainRules l (train k)) ≡ 0) → refusal (everyTrainRules l train n) ≡ 0
+  trains-kept h =
+      kept-three (every-all _ n (λ k m. three-kept (h k m) .0)) (every-all _ n (λ k m. three-kept (h k m) .1)) (every-all _ n (λ k m. three-kept (h k m) .2))
 
 -- ---- rule 3, then those of the line, then others
 
@@ -104,13 +92,12 @@ module _ (sizes : Bool) (l : Line) (others : List Rule) where
 
 module _ (l : Line) (t : Train) where
   pub on-positive : Positive (rulesOn l t)
-  unfolding decided
   on-positive = omega arith
 
   pub on-admitted : refusal (rulesOn l t) ≡ 0 → Parallel l t → Admitted l t
   on-admitted z p =
       let (sizes, line, train) = each-accepted (sizesOn l t) l (oneTrainRules l t) z in
-      let (r₄, r₅, r₆) = line-rules l .0 line in
+      let (r₄, r₅, r₆, r₁₅) = line-rules l .0 line in
       let (r₇, r₈, r₉) = train-rules l t .0 train in
       record {
         trainCount = 1;
@@ -119,6 +106,7 @@ module _ (l : Line) (t : Train) where
         rule4 = r₄;
         rule5 = r₅;
         rule6 = r₆;
+        rule15 = r₁₅;
         rule7 = r₇;
         rule8 = r₈;
         rule9 = r₉;
@@ -127,25 +115,9 @@ module _ (l : Line) (t : Train) where
 
   pub on-kept : Admitted l t → refusal (rulesOn l t) ≡ 0
   on-kept a =
-      let sizes = and-both (rule-3-line l 1 .1 one-train) (rule-3-train t .1 (a .rule3Train)) in
-      line-passed (sizesOn l t) l (oneTrainRules l t) sizes (line-rules l .1 (a .rule4, a .rule5, a .rule6))
+      let sizes = and-both (one-train l (a .rule3Line)) (rule-3-train t .1 (a .rule3Train)) in
+      line-passed (sizesOn l t) l (oneTrainRules l t) sizes (line-rules l .1 (a .rule4, a .rule5, a .rule6, a .rule15))
       ∙ train-rules l t .1 (a .rule7, a .rule8, a .rule9)
-    where
-      one-train : Rule3Line l 1
-      one-train =
-          let r = a .rule3Line in
-          record {
-            points-least = r .points-least;
-            points-most = r .points-most;
-            step-least = r .step-least;
-            step-most = r .step-most;
-            limits-least = r .limits-least;
-            limits-most = r .limits-most;
-            blocks-least = r .blocks-least;
-            blocks-most = r .blocks-most;
-            trains-least = omega arith;
-            trains-most = omega arith;
-          }
 
 -- ---- rules 1 and 2, by the announced end and the file's length
 
@@ -175,29 +147,27 @@ module _ (file : List ℕ) where
 
 module _ (file : List ℕ) where
   pub file-positive : Positive (fileRules file)
-  unfolding decided
   file-positive = omega arith
 
   train-positive : (k : ℕ) → Positive (trainRules file k)
-  unfolding decided
   train-positive k = omega arith
 
-  -- a lower number anywhere in the file wins
-  pub file-lowest : IsLowestBroken (fileRules file) (fileRefusal file)
-  unfolding fileRefusal decided
-  file-lowest = lowest-broken (fileRules file) (omega arith)
+  -- the first broken rule in checking order gives the number
+  pub file-first-broken : IsFirstBroken (fileRules file) (fileRefusal file)
+  unfolding fileRefusal
+  file-first-broken = first-broken (fileRules file) file-positive
 
-  pub train-lowest : (k : ℕ) → IsLowestBroken (trainRules file k) (trainRefusal file k)
-  unfolding trainRefusal decided
-  train-lowest k = lowest-broken (trainRules file k) (omega arith)
+  pub train-first-broken : (k : ℕ) → IsFirstBroken (trainRules file k) (trainRefusal file k)
+  unfolding trainRefusal
+  train-first-broken k = first-broken (trainRules file k) (train-positive k)
 
-  pub run-lowest : (k speeds times : ℕ) → IsLowestBroken (runRules file k speeds times) (runRefusal file k speeds times)
-  unfolding runRefusal decided
-  run-lowest k speeds times = lowest-broken (runRules file k speeds times) (omega arith)
+  pub run-first-broken : (k speeds times : ℕ) → IsFirstBroken (runRules file k speeds times) (runRefusal file k speeds times)
+  unfolding runRefusal
+  run-first-broken k speeds times = first-broken (runRules file k speeds times) (omega arith)
 
-  pub file-most : fileRefusal file ≤ 9
-  unfolding fileRefusal decided
-  file-most = refusal-most 9 (fileRules file) (omega arith)
+  pub file-most : fileRefusal file ≤ 15
+  unfolding fileRefusal
+  file-most = refusal-most 15 (fileRules file) (omega arith)
 
   -- the rules behind 1 and 2
   abbrev allTrains : List Rule
@@ -305,7 +275,7 @@ module _ (file : List ℕ) (ok : fileRefusal file ≡ 0) where
 
   pub admitted : (k : ℕ) → k < trainCount file → Admitted (lineOf file) (trainOf file k)
   admitted k h =
-      let (r₄, r₅, r₆) = line-rules (lineOf file) .0 (behind .1) in
+      let (r₄, r₅, r₆, r₁₅) = line-rules (lineOf file) .0 (behind .1) in
       let (r₇, r₈, r₉) = train-rules (lineOf file) (trainOf file k) .0 (trains-accepted (lineOf file) (trainOf file) (trainCount file) (behind .2) k h) in
       record {
         trainCount = trainCount file;
@@ -314,6 +284,7 @@ module _ (file : List ℕ) (ok : fileRefusal file ≡ 0) where
         rule4 = r₄;
         rule5 = r₅;
         rule6 = r₆;
+        rule15 = r₁₅;
         rule7 = r₇;
         rule8 = r₈;
         rule9 = r₉;

@@ -116,11 +116,7 @@ module _ (l : Line) (t : Train) where
         let n : ℕ = length (l .limitPoints) in
         let test : ℕ → Bool = λ k. leb (entry (l .limitPoints) k) c in
         let (j, f) = last-passes n test 0 (omega arith) (le-leb (entry (l .limitPoints) 0) c (omega arith)) in
-        let last : (k : ℕ) → k < n → entry (l .limitPoints) k ≤ c → k ≤ j = λ k h g.
-        let (i, e) = last-passes n test k h (le-leb (entry (l .limitPoints) k) c g) in
-        let same : i ≡ j = cc (e .found, f .found) in
-        omega (arith, e .at-least) in
-        (j, record { there = f .there; begun = leb-true _ _ (f .passes); unended = λ h. lt-of-not-le (λ g. omega (arith, last (suc j) h g)) })
+        (j, record { there = f .there; begun = leb-true _ _ (f .passes); unended = λ h. lt-of-not-le (λ g. omega (arith, f .last (suc j) h (le-leb _ c g))) })
 
     limit-least : (c : ℕ) → 1 ≤ cellLimit l c
     limit-least c = let (k, f) = limit-in-force c in rw (limit-is k c f) (a .rule5 .limit-least k (omega arith))

@@ -228,30 +228,35 @@ unfolding firstBelow
 first-agree zero f g h = refl
 first-agree (suc n) f g h = rw (first-agree n f g (λ i l. h i (omega arith)), h n (omega arith))
 
--- a number that passes is at most the last that does
-pub record LastPasses (n : ℕ) (test : ℕ → Bool) (i j : ℕ) : Type 0 where
+-- the last number that passes
+pub record LastPasses (n : ℕ) (test : ℕ → Bool) (j : ℕ) : Type 0 where
   pub found : lastBelow n test ≡ some j
-  pub at-least : i ≤ j
   pub there : j < n
   pub passes : test j ≡ true
+  pub last : (i : ℕ) → i < n → test i ≡ true → i ≤ j
 
-pub last-passes : (n : ℕ) (test : ℕ → Bool) (i : ℕ) → i < n → test i ≡ true → (j : ℕ) × LastPasses n test i j
+-- there is one where some number passes
+pub last-passes : (n : ℕ) (test : ℕ → Bool) (i : ℕ) → i < n → test i ≡ true → (j : ℕ) × LastPasses n test j
 unfolding lastBelow
 last-passes zero test i l e = absurd (omega arith)
 last-passes (suc n) test i l e = go (test n) refl (λ h. last-passes n test i h e)
   where
-    go : (b : Bool) → test n ≡ b → (i < n → (j : ℕ) × LastPasses n test i j) → (j : ℕ) × LastPasses (suc n) test i j
-    go true q r = (n, record { found = ap (λ (b : Bool). orElse (ifPasses b n) (lastBelow n test)) q; at-least = omega arith; there = omega arith; passes = q })
+    lower : test n ≡ false → (k : ℕ) → k < suc n → test k ≡ true → k < n
+    lower q k m p = ⊎-elim (λ (z : k ≡ n). absurd (false≢true (sym q ∙ ap test (sym z) ∙ p))) (λ lt. lt) (eq-or-lt-of-le (le-of-suc-le-suc m))
+
+    go : (b : Bool) → test n ≡ b → (i < n → (j : ℕ) × LastPasses n test j) → (j : ℕ) × LastPasses (suc n) test j
+    go true q r = (
+      n,
+      record { found = ap (λ (b : Bool). orElse (ifPasses b n) (lastBelow n test)) q; there = omega arith; passes = q; last = λ k m p. omega arith },
+    )
     go false q r =
-        let h : i < n = ⊎-elim (λ (z : i ≡ n). absurd (false≢true (sym q ∙ ap test (sym z) ∙ e))) (λ lt. lt) (eq-or-lt-of-le (le-of-suc-le-suc l)) in
-        let (j, f) = r h in (
+        let (j, f) = r (lower q i l e) in (
           j,
           record {
             found = ap (λ (b : Bool). orElse (ifPasses b n) (lastBelow n test)) q ∙ f .found;
-            at-least = f .at-least;
-            there =
-                omega (arith, f .there);
+            there = omega (arith, f .there);
             passes = f .passes;
+            last = λ k m p. f .last k (lower q k m p) p;
           },
         )
 

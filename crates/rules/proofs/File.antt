@@ -13,8 +13,8 @@ use lib.ListN.{length, take, drop, length-drop}
 use lib.Seq.{getD-drop, take-all}
 use borrow.Author.Tests.{le-leb, lt-leb, leb-true, leb-false}
 use Rattle.rules.specs.Count.{entry}
-use Rattle.rules.specs.File.{AreBytes, word, words, sizesEnd, limitCount, blockCount, trainCount, trainsAt, bandCount, stopCount, recordSize}
-use Rattle.rules.specs.File.{recordEnd, recordAt, announcedEnd}
+use Rattle.rules.specs.File.{AreBytes, word, words, sizesEnd, limitCount, blockCount, baliseCount, trainCount, trainsAt, bandCount, stopCount}
+use Rattle.rules.specs.File.{recordSize, recordEnd, recordAt, announcedEnd}
 use Rattle.rules.specs.Reading.{Reading, endsEarly, readTo, have, readTrains, readFile}
 use Rattle.rules.specs.Line.{lineOf, trainAt}
 use Rattle.rules.specs.Refusal.{whole, nothingAfter}
@@ -44,13 +44,13 @@ pub words-drop : (file : List ℕ) (at place n : ℕ) → words (drop at file) p
 unfolding words
 words-drop file at place n = row-agree _ _ n (λ i h. word-drop file at (place + 2 * i) ∙ ap (word file) (omega arith))
 
--- the sizes of a line are the file's first six numbers: P, L, K, B, set-up time, release time
+-- the sizes of a line are the file's first seven numbers: P, L, K, B, set-up time, release time, count of balises
 pub sizes-in-order :
-    let file : List ℕ = 1 ∷ 0 ∷ 2 ∷ 0 ∷ 3 ∷ 0 ∷ 4 ∷ 0 ∷ 5 ∷ 0 ∷ 6 ∷ 1 ∷ [] in
+    let file : List ℕ = 1 ∷ 0 ∷ 2 ∷ 0 ∷ 3 ∷ 0 ∷ 4 ∷ 0 ∷ 5 ∷ 0 ∷ 6 ∷ 1 ∷ 7 ∷ 0 ∷ [] in
     (lineOf file .points ≡ 1) × (lineOf file .step ≡ 2) × (limitCount file ≡ 3) × (blockCount file ≡ 4) × (lineOf file .setUp ≡ 5)
-    × (lineOf file .release ≡ 262)
+    × (lineOf file .release ≡ 262) × (baliseCount file ≡ 7)
 unfolding word lineOf
-sizes-in-order = (refl, refl, refl, refl, refl, refl)
+sizes-in-order = (refl, refl, refl, refl, refl, refl, refl)
 
 -- ---- the arrays
 
@@ -68,6 +68,7 @@ parallel file at =
     record {
       limits = length-words file _ (limitCount file) ∙ sym (length-words file _ (limitCount file));
       blocks = length-words file _ (blockCount file) ∙ sym (length-words file _ (blockCount file));
+      balises = length-words file _ (baliseCount file) ∙ sym (length-words file _ (baliseCount file));
       bands = length-words file _ (bandCount file at) ∙ sym (length-words file _ (bandCount file at));
       stops = length-words file _ (stopCount file at) ∙ sym (length-words file _ (stopCount file at));
     }

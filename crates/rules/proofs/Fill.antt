@@ -45,6 +45,20 @@ fill-up {f} {a} {b} {c} {v} {s₀} {s} r l e h q =
         rw z (getD-set-same s b v 0 (omega (arith, r .long)) ∙ q)
     at k m n (no g) = getD-set-other s b k v 0 (omega arith) ∙ r .inside k m (omega arith)
 
+-- two fills, one behind the other
+pub fill-join : {f : ℕ → ℕ} {a b c : ℕ} {s₀ s s′ : List ℕ} → Filled f a b s₀ s → Filled f b c s s′ → a ≤ b → b ≤ c → Filled f a c s₀ s′
+fill-join {f} {a} {b} {c} {s₀} {s} {s′} r q l m =
+    record {
+      long = q .long ∙ r .long;
+      inside = λ k h g. at k h g (decLe b k);
+      under = λ k h. q .under k (omega arith) ∙ r .under k h;
+      over = λ k h. q .over k h ∙ r .over k (omega arith);
+    }
+  where
+    at : (k : ℕ) → a ≤ k → k < c → Dec (b ≤ k) → entry s′ k ≡ f k
+    at k h g (yes p) = q .inside k p g
+    at k h g (no p) = q .under k (omega arith) ∙ r .inside k h (omega arith)
+
 pub fill-down : {f : ℕ → ℕ} {a b c v : ℕ} {s₀ s : List ℕ} → Filled f c b s₀ s → a < b → c ≡ suc a → a < length s₀ → v ≡ f a → Filled f a b s₀ (set s a v)
 fill-down {f} {a} {b} {c} {v} {s₀} {s} r l e h q =
     record {

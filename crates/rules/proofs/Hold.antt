@@ -36,8 +36,10 @@ module _ (speeds : List ℕ) (loss b : ℕ) where
       record {
         at-most = omega (arith, last-at-most (suc b) brakes);
         greatest = λ i h.
-            let (j, f) = last-passes (suc b) brakes i (omega (arith, h .before)) (le-leb (entry speeds i) (loss * (b - i)) (h .slow)) in
-            rw (f .found) (record { before = omega (arith, f .there); slow = leb-true _ _ (f .passes) }, f .at-least);
+            let near : i < suc b = omega (arith, h .before) in
+            let slow = le-leb (entry speeds i) (loss * (b - i)) (h .slow) in
+            let (j, f) = last-passes (suc b) brakes i near slow in
+            rw (f .found) (record { before = omega (arith, f .there); slow = leb-true _ _ (f .passes) }, f .last i near slow);
         none = λ h.
             rw (last-none (suc b) brakes (λ i l. lt-leb (entry speeds i) (loss * (b - i)) (fast h i l (decLt (loss * (b - i)) (entry speeds i)))));
       }

@@ -6,6 +6,7 @@ pub mod Rules
 pub mod Refusal
 pub mod Accepted
 pub mod Calls
+pub mod Grown
 pub mod Cap
 pub mod Step
 pub mod Sweep

@@ -15,7 +15,7 @@ use Rattle.rules.specs.Run.{runRow}
 use Rattle.rules.specs.Time.{runTimes}
 use Rattle.rules.specs.Hold.{Hold, emptyHold, holdOf}
 use Rattle.rules.specs.Sheet.{Sheet, fresh}
-use Rattle.rules.specs.Refusal.{Rule, rule, firstBroken, refusal, whole, nothingAfter, decided, lineRules, everyTrainRules, fileRules}
+use Rattle.rules.specs.Refusal.{Rule, rule, firstBroken, refusal, whole, nothingAfter, lineRules, everyTrainRules, fileRules}
 use Rattle.rules.specs.Refusal.{rulesOn, trainThere, trainRules, buffersLong, runRules, countRule, roomRule, holdRule}
 use Rattle.rules.specs.Calls.{fileRefusal, trainRefusal, trainRecord, RecordPlace, recordPlace, runRefusal, speedsAfter, timesAfter, written, lentAfter}
 use Rattle.rules.specs.Calls.{HoldAnswer, held, Opening, opened, accept, refuse, addition, added}
@@ -23,7 +23,7 @@ use Rattle.rules.specs.Text.{header, joined, refusalText, lineOfTrain, s
 use Rattle.rules.specs.Numbers.{Check, check, AnswersBy, lineChecks, trainChecks, EveryTrain, fileChecks, checksOn, trainCallChecks}
 use Rattle.rules.specs.Numbers.{runCallChecks, openingChecks, holdChecks, addingChecks}
 use Rattle.rules.proofs.Count.{and-left, and-right, and-both, every-at, every-all, within-means, within-holds}
-use Rattle.rules.proofs.Rules.{rule-3-line, rule-3-train, rule-4, rule-5, rule-6, rule-7, rule-8, rule-9}
+use Rattle.rules.proofs.Rules.{rule-3-line, rule-3-train, rule-4, rule-5, rule-6, rule-15, rule-7, rule-8, rule-9}
 use Rattle.rules.proofs.Sheet.{rule-12, rule-13, rule-14}
 
 -- ---- rules as tests beside rules in the paper's words
@@ -68,7 +68,7 @@ both-kept f g = (λ e. (f .0 (and-left _ _ e), g .0 (and-right _ _ e)), λ h. an
 -- ---- the rules of the file
 
 judges-line : (l : Line) {rules : List Rule} {checks : List Check} → Judges rules checks → Judges (lineRules l ++ rules) (lineChecks l ++ checks)
-judges-line l later = judges-first (rule-4 l) (judges-first (rule-5 l) (judges-first (rule-6 l) later))
+judges-line l later = judges-first (rule-4 l) (judges-first (rule-5 l) (judges-first (rule-6 l) (judges-first (rule-15 l) later)))
 
 module _ (file : List ℕ) where
   abbrev l : Line
@@ -78,14 +78,13 @@ module _ (file : List ℕ) where
   judges-trains :
       {rules : List Rule} {checks : List Check} → Judges rules checks →
       Judges (everyTrainRules l (trainOf file) (trainCount file) ++ rules) (trainChecks (EveryTrain file) l ++ checks)
-  unfolding decided
   judges-trains later =
       judges-first (every-kept (trainCount file) _ _ (λ k. rule-7 (trainOf file k)))
       (judges-first (every-kept (trainCount file) _ _ (λ k. rule-8 l (trainOf file k)))
       (judges-first (every-kept (trainCount file) _ _ (λ k. rule-9 l (trainOf file k))) later))
 
   pub judges-file : {rules : List Rule} {checks : List Check} → Judges rules checks → Judges (fileRules file ++ rules) (fileChecks file ++ checks)
-  unfolding whole nothingAfter decided
+  unfolding whole nothingAfter
   judges-file later =
       judges-first (leb-true (announcedEnd file) (length file), le-leb (announcedEnd file) (length file))
       (judges-first (leb-true (length file) (announcedEnd file), le-leb (length file) (announcedEnd file))
@@ -94,7 +93,7 @@ module _ (file : List ℕ) where
 
 -- one train on a line
 pub number-on : (l : Line) (t : Train) → AnswersBy (checksOn l t) (λ n. n) 0 (refusal (rulesOn l t))
-unfolding decided refusal
+unfolding refusal
 number-on l t = answers-by orZero judges-on
   where
     judges-on : Judges (rulesOn l t) (checksOn l t)
@@ -106,7 +105,6 @@ number-on l t = answers-by orZero judges-on
 
 module _ (file : List ℕ) where
   judges-call : Judges (fileRules file) (fileChecks file)
-  unfolding decided
   judges-call = judges-file file judges-none
 
   pub file-number : AnswersBy (fileChecks file) (λ n. n) 0 (fileRefusal file)
@@ -115,7 +113,7 @@ module _ (file : List ℕ) where
 
   module _ (k : ℕ) where
     judges-train-call : Judges (trainRules file k) (trainCallChecks file k)
-    unfolding decided trainThere
+    unfolding trainThere
     judges-train-call = judges-file file (judges-first (ltb-true k (trainCount file), lt-ltb k (trainCount file)) judges-none)
 
     pub train-number : AnswersBy (trainCallChecks file k) (λ n. n) 0 (trainRefusal file k)
@@ -138,7 +136,7 @@ module _ (file : List ℕ) where
 
     module _ (speeds times : ℕ) where
       judges-run-call : Judges (runRules file k speeds times) (runCallChecks file k speeds times)
-      unfolding decided trainThere buffersLong
+      unfolding trainThere buffersLong
       judges-run-call =
           judges-file file
           (judges-first (ltb-true k (trainCount file), lt-ltb k (trainCount file))

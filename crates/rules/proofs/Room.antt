@@ -84,8 +84,8 @@ module _ (file : List ℕ) (ok : fileRefusal file ≡ 0) where
       (omega (arith, lines-most (trainCount file) (omega arith), line-sizes file ok .trains-most))
 
 -- a refusal's text is shorter
-pub refusal-fits : (n : ℕ) → n ≤ 9 → length (refusalText n) ≤ 2390
-refusal-fits n h = omega (arith, refusal-length n, decimal-most 0 n (omega arith))
+pub refusal-fits : (n : ℕ) → n ≤ 99 → length (refusalText n) ≤ 2390
+refusal-fits n h = omega (arith, refusal-length n, decimal-most 1 n (omega arith))
 
 -- and so is whatever the sheet program prints
 pub program-most : (input : List ℕ) → length (programText input) ≤ 2390
@@ -94,5 +94,5 @@ program-most input = go (decLt 16384 (length input)) (decLt 0 (fileRefusal input
     go : Dec (16384 < length input) → Dec (0 < fileRefusal input) → length (programText input) ≤ 2390
     go (yes long) file = rw (program-long input long) (refusal-fits 2 (omega arith))
     go (no short) (yes broken) =
-        rw (program-whole input (omega arith), text-refused input (λ z. omega arith)) (refusal-fits (fileRefusal input) (file-most input))
+        rw (program-whole input (omega arith), text-refused input (λ z. omega arith)) (refusal-fits (fileRefusal input) (omega (arith, file-most input)))
     go (no short) (no kept) = rw (program-whole input (omega arith)) (text-most input (omega arith))

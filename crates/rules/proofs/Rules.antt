@@ -1,4 +1,4 @@
--- Each test of the file rules 3 to 9 passes exactly where the line and the train have the rule's property. Assumes nothing.
+-- Each test of the file rules 3 to 9 and 15 passes exactly where the line and the train have the rule's property. Assumes nothing.
 use Prim.Native.Nat.{ℕ, _+_, _-_, _≤_, _<_}
 use mathlib.Core.Bool.{true}
 use mathlib.Core.Logic.{_↔_}
@@ -7,13 +7,14 @@ use native.Mathlib.Omega.{arith}
 use native.Mathlib.Nat.{add-zero}
 use native.Mathlib.Numerals.{add-one}
 use lib.ListN.{length}
-use borrow.Author.Tests.{leb-true, le-leb, eqb-true, eq-eqb}
+use borrow.Author.Tests.{leb-true, le-leb, ltb-true, lt-ltb, eqb-true, eq-eqb}
 use Rattle.rules.specs.Count.{entry}
 use Rattle.rules.specs.Line.{Line, Train}
-use Rattle.rules.specs.Refusal.{lineSizes, trainSizes, limitPointsRule, limitsRule, blocksRule, bandsRule, stopsRule, lastBlockRule}
-use Rattle.rules.specs.Admitted.{Rule3Line, Rule3Train, Rule4, Rule5, Rule6, Rule7, Rule8, Rule9}
+use Rattle.rules.specs.Run.{balisePlace}
+use Rattle.rules.specs.Refusal.{lineSizes, trainSizes, limitPointsRule, limitsRule, blocksRule, balisesRule, bandsRule, stopsRule, lastBlockRule}
+use Rattle.rules.specs.Admitted.{Rule3Line, Rule3Train, Rule4, Rule5, Rule6, Rule15, Rule7, Rule8, Rule9}
 use Rattle.rules.proofs.Count.{and-left, and-right, and-both, within-means, within-holds, all-within-means, all-within-holds, below-means}
-use Rattle.rules.proofs.Count.{below-holds, rises-means, rises-holds}
+use Rattle.rules.proofs.Count.{below-holds, rises-means, rises-holds, every-at, every-all}
 
 -- a step of one from i, in the two ways of writing it
 up : {a b : ℕ} → a + 1 ≤ b → a < b
@@ -33,7 +34,9 @@ rule-3-line l trains = (
       let s = within-means 1 100 (l .step) (and-left _ _ e₁) in
       let k = within-means 1 64 (length (l .limits)) (and-left _ _ e₂) in
       let b = within-means 1 32 (length (l .blockStarts)) (and-left _ _ e₃) in
-      let t = within-means 1 64 trains (and-right _ _ e₃) in
+      let e₄ = and-right _ _ e₃ in
+      let m = within-means 0 64 (length (l .balisePoints)) (and-left _ _ e₄) in
+      let t = within-means 1 64 trains (and-right _ _ e₄) in
       record {
         points-least = p .0;
         points-most = p .1;
@@ -43,6 +46,7 @@ rule-3-line l trains = (
         limits-most = k .1;
         blocks-least = b .0;
         blocks-most = b .1;
+        balises-most = m .1;
         trains-least = t .0;
         trains-most = t .1;
       },
@@ -51,8 +55,27 @@ rule-3-line l trains = (
       (and-both (within-holds 1 100 (l .step) (r .step-least) (r .step-most))
       (and-both (within-holds 1 64 (length (l .limits)) (r .limits-least) (r .limits-most))
       (and-both (within-holds 1 32 (length (l .blockStarts)) (r .blocks-least) (r .blocks-most))
-      (within-holds 1 64 trains (r .trains-least) (r .trains-most))))),
+      (and-both (within-holds 0 64 (length (l .balisePoints)) (omega arith) (r .balises-most))
+      (within-holds 1 64 trains (r .trains-least) (r .trains-most)))))),
 )
+
+-- a line whose sizes are kept with some trains keeps them with one
+pub one-train : (l : Line) {trains : ℕ} → Rule3Line l trains → lineSizes l 1 ≡ true
+one-train l r =
+    rule-3-line l 1 .1
+    (record {
+      points-least = r .points-least;
+      points-most = r .points-most;
+      step-least = r .step-least;
+      step-most = r .step-most;
+      limits-least = r .limits-least;
+      limits-most = r .limits-most;
+      blocks-least = r .blocks-least;
+      blocks-most = r .blocks-most;
+      balises-most = r .balises-most;
+      trains-least = omega arith;
+      trains-most = omega arith;
+    })
 
 pub rule-3-train : (t : Train) → (trainSizes t ≡ true) ↔ Rule3Train t
 unfolding trainSizes
@@ -117,6 +140,22 @@ rule-6 l = (
       (and-both (below-holds 1 _ (entry (l .blockStarts)) (entry (l .blockEnds)) (λ k h. down (r .below k h)))
       (and-both (below-holds 0 _ (entry (l .blockEnds)) (λ i. entry (l .blockStarts) (i + 1)) (λ k h. rw (add-zero, add-one k) (r .after k (omega arith))))
       (all-within-holds 0 _ _ (entry (l .blockEnds)) (λ k h. omega arith) (r .end-most)))),
+)
+
+pub rule-15 : (l : Line) → (balisesRule l ≡ true) ↔ Rule15 l
+unfolding balisesRule
+rule-15 l = (
+  λ e.
+      let e₁ = and-right _ _ e in
+      record {
+        rise = λ k h. up (rises-means 1 _ (balisePlace l) (and-left _ _ e) k h);
+        metres-most = λ k h. ltb-true _ (l .step) (every-at _ _ (and-left _ _ e₁) k h);
+        place-most = λ k h. all-within-means 0 _ _ (balisePlace l) (and-right _ _ e₁) k h .1;
+      },
+  λ r.
+      and-both (rises-holds 1 _ (balisePlace l) (λ k h. down (r .rise k h)))
+      (and-both (every-all _ _ (λ k h. lt-ltb _ (l .step) (r .metres-most k h)))
+      (all-within-holds 0 _ _ (balisePlace l) (λ k h. omega arith) (r .place-most))),
 )
 
 pub rule-7 : (t : Train) → (bandsRule t ≡ true) ↔ Rule7 t

@@ -1,15 +1,15 @@
--- Document 01, "Numbers of refusal": each rule as a property of the line, of a train, of a sheet or of a hold record. The tests of
--- Refusal pass exactly where these hold (laws `rule-3-line` to `rule-14`).
+-- Document 01, "Numbers of refusal", with 15 of document 02, "Req 04": each rule as a property of the line, of a train, of a sheet or of a
+-- hold record. The tests of Refusal pass exactly where these hold (laws `rule-3-line` to `rule-15`).
 use Prim.Native.Nat.{ℕ, suc, _+_, _-_, _*_, _^_, _≤_, _<_}
 use mathlib.Core.Path.{_≡_}
 use lib.ListN.{length}
 use Rattle.rules.specs.Count.{entry}
 use Rattle.rules.specs.Line.{Line, Train}
-use Rattle.rules.specs.Run.{trainCells}
+use Rattle.rules.specs.Run.{trainCells, balisePlace}
 use Rattle.rules.specs.Hold.{Hold}
 use Rattle.rules.specs.Sheet.{Sheet, begin, end, freeTime, firstBegin}
 
--- 3, of P, L, K, B and T
+-- 3, of P, L, K, B, the count of balises and T
 pub record Rule3Line (l : Line) (trains : ℕ) : Type 0 where
   pub points-least : 3 ≤ l .points
   pub points-most : l .points ≤ 4096
@@ -19,6 +19,7 @@ pub record Rule3Line (l : Line) (trains : ℕ) : Type 0 where
   pub limits-most : length (l .limits) ≤ 64
   pub blocks-least : 1 ≤ length (l .blockStarts)
   pub blocks-most : length (l .blockStarts) ≤ 32
+  pub balises-most : length (l .balisePoints) ≤ 64
   pub trains-least : 1 ≤ trains
   pub trains-most : trains ≤ 64
 
@@ -49,6 +50,12 @@ pub record Rule6 (l : Line) : Type 0 where
   pub after : (k : ℕ) → suc k < length (l .blockStarts) → entry (l .blockEnds) k ≤ entry (l .blockStarts) (suc k)
   pub end-most : (k : ℕ) → k < length (l .blockEnds) → entry (l .blockEnds) k ≤ l .points - 1
 
+-- 15
+pub record Rule15 (l : Line) : Type 0 where
+  pub rise : (k : ℕ) → suc k < length (l .balisePoints) → balisePlace l k < balisePlace l (suc k)
+  pub metres-most : (k : ℕ) → k < length (l .balisePoints) → entry (l .baliseMetres) k < l .step
+  pub place-most : (k : ℕ) → k < length (l .balisePoints) → balisePlace l k ≤ (l .points - 1) * l .step
+
 -- 7
 pub record Rule7 (t : Train) : Type 0 where
   pub rise : (k : ℕ) → suc k < length (t .tops) → entry (t .tops) k < entry (t .tops) (suc k)
@@ -71,6 +78,7 @@ pub record Rule9 (l : Line) (t : Train) : Type 0 where
 pub record Parallel (l : Line) (t : Train) : Type 0 where
   pub limits : length (l .limitPoints) ≡ length (l .limits)
   pub blocks : length (l .blockEnds) ≡ length (l .blockStarts)
+  pub balises : length (l .balisePoints) ≡ length (l .baliseMetres)
   pub bands : length (t .tops) ≡ length (t .rates)
   pub stops : length (t .stops) ≡ length (t .dwells)
 
@@ -82,6 +90,7 @@ pub record Admitted (l : Line) (t : Train) : Type 0 where
   pub rule4 : Rule4 l
   pub rule5 : Rule5 l
   pub rule6 : Rule6 l
+  pub rule15 : Rule15 l
   pub rule7 : Rule7 t
   pub rule8 : Rule8 l t
   pub rule9 : Rule9 l t

@@ -80,7 +80,7 @@ diagramBytes l t = joined (λ i. pointBytes (diagramPoint l t i) (diagramDot l t
 unfoldable pub roomForPoints : Line → ℕ → Bool
 roomForPoints l bytes = leb (pointSize * l .points) bytes
 
--- 1 to 10, then 11
+-- the file's rules and 10, then 11
 abbrev pub diagramRules : List ℕ → ℕ → ℕ → List Rule
 diagramRules file k bytes = trainRules file k ++ (rule 11 (roomForPoints (lineOf file) bytes) ∷ [])
 

@@ -1,4 +1,5 @@
--- Document 01, "Units and the file": where each number of the file stands. `file` is the list of the file's bytes.
+-- Document 01, "Units and the file", with the balises of document 02, "Req 04": where each number of the file stands. `file` is the list of the
+-- file's bytes.
 use Prim.Native.Nat.{ℕ, zero, suc, _+_, _*_, _<_}
 use mathlib.Core.List.{List}
 use lib.ListN.{take, drop}
@@ -41,10 +42,14 @@ setUpTime file = word file 8
 abbrev pub releaseTime : List ℕ → ℕ
 releaseTime file = word file 10
 
-abbrev pub sizesEnd : ℕ
-sizesEnd = 12
+-- balises
+abbrev pub baliseCount : List ℕ → ℕ
+baliseCount file = word file 12
 
--- ---- the parallel arrays: K limit points, K limits, B block starts, B block ends; then T
+abbrev pub sizesEnd : ℕ
+sizesEnd = 14
+
+-- ---- the parallel arrays: K limit points, K limits, B block starts, B block ends, the balises' points, the metres past each; then T
 
 abbrev pub limitPointsAt : List ℕ → ℕ
 limitPointsAt file = sizesEnd
@@ -58,8 +63,14 @@ blockStartsAt file = limitsAt file + 2 * limitCount file
 abbrev pub blockEndsAt : List ℕ → ℕ
 blockEndsAt file = blockStartsAt file + 2 * blockCount file
 
+abbrev pub balisePointsAt : List ℕ → ℕ
+balisePointsAt file = blockEndsAt file + 2 * blockCount file
+
+abbrev pub baliseMetresAt : List ℕ → ℕ
+baliseMetresAt file = balisePointsAt file + 2 * baliseCount file
+
 abbrev pub trainCountAt : List ℕ → ℕ
-trainCountAt file = blockEndsAt file + 2 * blockCount file
+trainCountAt file = baliseMetresAt file + 2 * baliseCount file
 
 -- T, trains
 abbrev pub trainCount : List ℕ → ℕ

@@ -5,7 +5,7 @@ use mathlib.Core.List.{List, [], _∷_}
 use Rattle.rules.specs.Count.{entry}
 use Rattle.rules.specs.File.{words, pointCount, stepLength, limitCount, blockCount, setUpTime, releaseTime, limitPointsAt, limitsAt}
 use Rattle.rules.specs.File.{blockStartsAt, blockEndsAt, classNumber, lengthNumber, bandCount, stopCount, topsAt, ratesAt, stopsAt, dwellsAt}
-use Rattle.rules.specs.File.{recordAt}
+use Rattle.rules.specs.File.{baliseCount, balisePointsAt, baliseMetresAt, recordAt}
 
 pub record Line : Type 0 where
   -- P; the points are 0 to P - 1, and cell i lies between points i and i + 1
@@ -21,6 +21,9 @@ pub record Line : Type 0 where
   -- B blocks, as points
   pub blockStarts : List ℕ
   pub blockEnds : List ℕ
+  -- balises: the points, and the metres past each
+  pub balisePoints : List ℕ
+  pub baliseMetres : List ℕ
 
 pub record Train : Type 0 where
   pub class : ℕ
@@ -45,6 +48,8 @@ lineOf file =
       limits = words file (limitsAt file) (limitCount file);
       blockStarts = words file (blockStartsAt file) (blockCount file);
       blockEnds = words file (blockEndsAt file) (blockCount file);
+      balisePoints = words file (balisePointsAt file) (baliseCount file);
+      baliseMetres = words file (baliseMetresAt file) (baliseCount file);
     }
 
 -- the train whose record stands at a byte place, and the train of record k

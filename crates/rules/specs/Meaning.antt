@@ -1,13 +1,13 @@
--- The sentences of document 01 as properties, in the paper's words. proofs/ shows that the definitions have them.
+-- The sentences of document 01, and of document 02 where it changes them, as properties, in the papers' words. proofs/ shows that the
+-- definitions have them.
 use Prim.Native.Nat.{ℕ, suc, _+_, _-_, _*_, _≤_, _<_, min}
 use mathlib.Core.Bool.{true, false}
 use mathlib.Core.List.{List, [], _∷_}
-use mathlib.Core.Option.{Option, none, some}
 use mathlib.Core.Path.{_≡_}
 use lib.ListN.{length, getD}
 use Rattle.rules.specs.Count.{entry}
 use Rattle.rules.specs.Line.{Line, Train}
-use Rattle.rules.specs.Run.{lastTop, trainCells, cellLimit, brakingLoss}
+use Rattle.rules.specs.Run.{lastTop, trainCells, balisePlace, grownCells, cellLimit, brakingLoss}
 use Rattle.rules.specs.Time.{Root, departure, arrival}
 use Rattle.rules.specs.Hold.{Hold}
 use Rattle.rules.specs.Sheet.{Sheet, begin, end, freeTime, firstBegin}
@@ -20,15 +20,34 @@ pub record IsRoundedUp (a b x : ℕ) : Type 0 where
 
 -- ---- the run
 
+-- balise k is the latest at or before the head, which is at point i
+pub record IsLatestBalise (l : Line) (i k : ℕ) : Type 0 where
+  pub there : k < length (l .balisePoints)
+  pub at-or-before : balisePlace l k ≤ i * l .step
+  pub latest : (j : ℕ) → j < length (l .balisePoints) → balisePlace l j ≤ i * l .step → balisePlace l j ≤ balisePlace l k
+
+-- d is the distance from the latest balise at or before the head, else from point 0, to the head
+pub record IsDistance (l : Line) (i d : ℕ) : Type 0 where
+  pub from-balise : (k : ℕ) → IsLatestBalise l i k → balisePlace l k + d ≡ i * l .step
+  pub from-point-0 : ((k : ℕ) → IsLatestBalise l i k → ⊥) → d ≡ i * l .step
+
+-- n is the train's length, grown by 2 m and by the distance divided by 50, rounded up, in steps, rounded up
+pub record IsGrownCells (l : Line) (t : Train) (i n : ℕ) : Type 0 where
+  pub distance : ℕ
+  pub growth : ℕ
+  pub distance-is : IsDistance l i distance
+  pub growth-is : IsRoundedUp distance 50 growth
+  pub cells-are : IsRoundedUp (t .trainLength + 2 + growth) (l .step) n
+
 -- limit k holds in cell c: from the cell at its point up to the next limit's point
 pub record InForce (l : Line) (k c : ℕ) : Type 0 where
   pub there : k < length (l .limitPoints)
   pub begun : entry (l .limitPoints) k ≤ c
   pub unended : suc k < length (l .limitPoints) → c < entry (l .limitPoints) (suc k)
 
--- cell c is one of the cells i - n to i that exist
+-- cell c is one of the cells i - n to i that exist, n that of the grown length
 pub record Covers (l : Line) (t : Train) (i c : ℕ) : Type 0 where
-  pub from-tail : i ≤ c + trainCells l t
+  pub from-tail : i ≤ c + grownCells l t i
   pub to-head : c ≤ i
   pub exists : suc c < l .points
 
@@ -135,21 +154,17 @@ pub record IsSheetAfter (s : Sheet) (h : Hold) (start : ℕ) (after : Sheet) : T
 abbrev pub noRule : Rule
 noRule = rule 0 true
 
--- the first broken rule in checking order gives the number, and there is none exactly if no rule is broken
-pub record IsFirstBroken (rules : List Rule) (o : Option ℕ) : Type 0 where
-  pub none-broken : o ≡ none → (i : ℕ) → i < length rules → getD rules i noRule .kept ≡ true
-  pub all-kept : ((i : ℕ) → i < length rules → getD rules i noRule .kept ≡ true) → o ≡ none
-  pub found :
-      (n : ℕ) → o ≡ some n →
-      (i : ℕ) × (i < length rules) × (getD rules i noRule .number ≡ n) × (getD rules i noRule .kept ≡ false) ×
-      ((j : ℕ) → j < i → getD rules j noRule .kept ≡ true)
+-- rule i is broken, and every rule that is checked before it is kept
+pub record BrokenFirst (rules : List Rule) (i : ℕ) : Type 0 where
+  pub there : i < length rules
+  pub broken : getD rules i noRule .kept ≡ false
+  pub kept-before : (j : ℕ) → j < i → getD rules j noRule .kept ≡ true
 
--- the number of refusal is 0 exactly if no rule is broken, and otherwise the lowest number of a broken rule
-pub record IsLowestBroken (rules : List Rule) (n : ℕ) : Type 0 where
+-- of several broken rules the first in checking order gives the number of refusal, and it is 0 exactly if no rule is broken
+pub record IsFirstBroken (rules : List Rule) (n : ℕ) : Type 0 where
   pub none-broken : n ≡ 0 → (i : ℕ) → i < length rules → getD rules i noRule .kept ≡ true
   pub all-kept : ((i : ℕ) → i < length rules → getD rules i noRule .kept ≡ true) → n ≡ 0
-  pub broken : (n ≡ 0 → ⊥) → (i : ℕ) × (i < length rules) × (getD rules i noRule .number ≡ n) × (getD rules i noRule .kept ≡ false)
-  pub lowest : (i : ℕ) → i < length rules → getD rules i noRule .kept ≡ false → n ≤ getD rules i noRule .number
+  pub first : (i : ℕ) → BrokenFirst rules i → n ≡ getD rules i noRule .number
 
 -- ---- lent buffers
 

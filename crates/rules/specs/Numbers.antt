@@ -1,5 +1,5 @@
--- Document 01, "Numbers of refusal, in checking order": the list as the paper has it, each number beside the rule that it stands for. The
--- laws of proofs/Numbers say of every call that it answers by this list.
+-- Document 01, "Numbers of refusal, in checking order", with 15 of document 02, "Req 04": the list as the papers have it, each number beside
+-- the rule that it stands for. The laws of proofs/Numbers say of every call that it answers by this list.
 use Prim.Native.Nat.{ℕ, _≤_, _<_}
 use mathlib.Core.List.{List, [], _∷_, _++_}
 use mathlib.Core.Path.{_≡_}
@@ -8,7 +8,7 @@ use Rattle.rules.specs.File.{trainCount, announcedEnd}
 use Rattle.rules.specs.Line.{Line, Train, lineOf, trainOf}
 use Rattle.rules.specs.Hold.{Hold}
 use Rattle.rules.specs.Sheet.{Sheet}
-use Rattle.rules.specs.Admitted.{Rule3Line, Rule3Train, Rule4, Rule5, Rule6, Rule7, Rule8, Rule9, Rule12, Rule14}
+use Rattle.rules.specs.Admitted.{Rule3Line, Rule3Train, Rule4, Rule5, Rule6, Rule15, Rule7, Rule8, Rule9, Rule12, Rule14}
 
 -- a number, and what it means that its rule is kept
 pub record Check : Type 1 where
@@ -26,9 +26,9 @@ AnswersBy (c ∷ checks) refusal acceptance a = ((c .kept → ⊥) → a ≡ ref
 
 -- ---- the rules of the file
 
--- 4 to 6, of a line
+-- 4 to 6, then 15, of a line
 abbrev pub lineChecks : Line → List Check
-lineChecks l = check 4 (Rule4 l) ∷ check 5 (Rule5 l) ∷ check 6 (Rule6 l) ∷ []
+lineChecks l = check 4 (Rule4 l) ∷ check 5 (Rule5 l) ∷ check 6 (Rule6 l) ∷ check 15 (Rule15 l) ∷ []
 
 -- 7 to 9, of trains on a line: `Each` says a rule of one train or of every train
 abbrev pub trainChecks : ((Train → Type 0) → Type 0) → Line → List Check
@@ -38,7 +38,7 @@ trainChecks Each l = check 7 (Each Rule7) ∷ check 8 (Each (Rule8 l)) ∷ check
 abbrev pub EveryTrain : List ℕ → (Train → Type 0) → Type 0
 EveryTrain file Kept = (k : ℕ) → k < trainCount file → Kept (trainOf file k)
 
--- 1 to 9, of a file
+-- 1 to 9 and 15, of a file
 abbrev pub fileChecks : List ℕ → List Check
 fileChecks file =
     check 1 (announcedEnd file ≤ length file)
@@ -46,7 +46,7 @@ fileChecks file =
     ∷ check 3 (Rule3Line (lineOf file) (trainCount file) × EveryTrain file Rule3Train)
     ∷ (lineChecks (lineOf file) ++ trainChecks (EveryTrain file) (lineOf file))
 
--- 3 to 9, of one train on a line
+-- 3 to 9 and 15, of one train on a line
 abbrev pub checksOn : Line → Train → List Check
 checksOn l t = check 3 (Rule3Line l 1 × Rule3Train t) ∷ (lineChecks l ++ trainChecks (λ Kept. Kept t) l)
 

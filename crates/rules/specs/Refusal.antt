@@ -1,5 +1,5 @@
--- Document 01, "Numbers of refusal, in checking order". Each test passes where its rule is kept.
-use Prim.Native.Nat.{ℕ, _+_, _-_, _*_, _^_, min}
+-- Document 01, "Numbers of refusal, in checking order", with 15 and the order of document 02, "Req 04". Each test passes where its rule is kept.
+use Prim.Native.Nat.{ℕ, _+_, _-_, _*_, _^_}
 use mathlib.Core.Bool.{Bool, true, not, cond}
 use mathlib.Core.List.{List, [], _∷_, _++_}
 use mathlib.Core.Option.{Option, none, some}
@@ -8,7 +8,7 @@ use lib.ListN.{length}
 use Rattle.rules.specs.Count.{_and_, entry, orZero, every, within, allWithin, belowBy, risesBy}
 use Rattle.rules.specs.File.{trainCount, announcedEnd}
 use Rattle.rules.specs.Line.{Line, Train, lineOf, trainOf}
-use Rattle.rules.specs.Run.{trainCells}
+use Rattle.rules.specs.Run.{trainCells, balisePlace}
 use Rattle.rules.specs.Hold.{Hold}
 use Rattle.rules.specs.Sheet.{Sheet, begin, end, freeTime, firstBegin}
 
@@ -30,10 +30,6 @@ firstBroken (r ∷ rs) = cond (r .kept) (firstBroken rs) (some (r .number))
 unfoldable pub refusal : List Rule → ℕ
 refusal rules = orZero (firstBroken rules)
 
--- the lower of two numbers of refusal, of which 0 is none
-unfoldable pub lowerOf : ℕ → ℕ → ℕ
-lowerOf a b = cond (eqb a 0) b (cond (eqb b 0) a (min a b))
-
 -- ---- the rules of the file
 
 -- a test of a train passes for every train of the file
@@ -48,13 +44,14 @@ whole file = leb (announcedEnd file) (length file)
 unfoldable pub nothingAfter : List ℕ → Bool
 nothingAfter file = leb (length file) (announcedEnd file)
 
--- 3. P, L, K, B, T, each class, length, A and S are within their limits. First P, L, K, B and T as numbers.
-abbrev pub lineNumbers : ℕ → ℕ → ℕ → ℕ → ℕ → Bool
-lineNumbers points step limits blocks trains =
+-- 3. P, L, K, B, the count of balises, T, each class, length, A and S are within their limits. First those of the line and T as numbers.
+abbrev pub lineNumbers : ℕ → ℕ → ℕ → ℕ → ℕ → ℕ → Bool
+lineNumbers points step limits blocks balises trains =
     within 3 4096 points
     and within 1 100 step
     and within 1 64 limits
     and within 1 32 blocks
+    and within 0 64 balises
     and within 1 64 trains
 
 -- 3, of a class, a length, A and S as numbers.
@@ -67,7 +64,7 @@ trainNumbers class trainLength bands stops =
 
 -- 3, of a line and T.
 unfoldable pub lineSizes : Line → ℕ → Bool
-lineSizes l trains = lineNumbers (l .points) (l .step) (length (l .limits)) (length (l .blockStarts)) trains
+lineSizes l trains = lineNumbers (l .points) (l .step) (length (l .limits)) (length (l .blockStarts)) (length (l .balisePoints)) trains
 
 -- 3, of a train.
 unfoldable pub trainSizes : Train → Bool
@@ -100,6 +97,13 @@ blocksRule l =
     and belowBy 0 (length (l .blockStarts) - 1) (entry (l .blockEnds)) (λ i. entry (l .blockStarts) (i + 1))
     and allWithin 0 (l .points - 1) (length (l .blockEnds)) (entry (l .blockEnds))
 
+-- 15. Balises strictly rise in place, the metres past a point do not reach L, and no place lies beyond the last point.
+unfoldable pub balisesRule : Line → Bool
+balisesRule l =
+    risesBy 1 (length (l .balisePoints)) (balisePlace l)
+    and every (length (l .balisePoints)) (λ k. ltb (entry (l .baliseMetres) k) (l .step))
+    and allWithin 0 ((l .points - 1) * l .step) (length (l .balisePoints)) (balisePlace l)
+
 -- 7. Band tops strictly rise within 1 to 300, and each rate is 1 to 200.
 unfoldable pub bandsRule : Train → Bool
 bandsRule t =
@@ -124,42 +128,30 @@ lastBlockRule l t = leb (entry (l .blockEnds) (length (l .blockEnds) - 1) + trai
 abbrev pub lengthRules : List ℕ → List Rule
 lengthRules file = rule 1 (whole file) ∷ rule 2 (nothingAfter file) ∷ []
 
--- 4 to 6, of a line. A difference such as P - 2 is cut off at 0 where P is too small; then rule 3 is broken and comes first.
+-- 4 to 6, then 15, of a line. A difference such as P - 2 is cut off at 0 where P is too small; then rule 3 is broken and comes first.
 abbrev pub lineRules : Line → List Rule
-lineRules l = rule 4 (limitPointsRule l) ∷ rule 5 (limitsRule l) ∷ rule 6 (blocksRule l) ∷ []
+lineRules l = rule 4 (limitPointsRule l) ∷ rule 5 (limitsRule l) ∷ rule 6 (blocksRule l) ∷ rule 15 (balisesRule l) ∷ []
 
--- a rule of a train on a line
-pub record TrainRule : Type 0 where
-  pub number : ℕ
-  pub kept : Line → Train → Bool
-
-abbrev pub trainRule : ℕ → (Line → Train → Bool) → TrainRule
-trainRule number kept = record { number = number; kept = kept }
-
--- 7 to 9
-abbrev pub trainTests : List TrainRule
-trainTests = trainRule 7 (λ l. bandsRule) ∷ trainRule 8 stopsRule ∷ trainRule 9 lastBlockRule ∷ []
-
--- such rules with the tests decided
-unfoldable pub decided : (TrainRule → Bool) → List TrainRule → List Rule
-decided kept [] = []
-decided kept (r ∷ rs) = rule (r .number) (kept r) ∷ decided kept rs
+-- 7 to 9, by whether each is kept
+abbrev pub trainRulesBy : Bool → Bool → Bool → List Rule
+trainRulesBy bands stops lastBlock = rule 7 bands ∷ rule 8 stops ∷ rule 9 lastBlock ∷ []
 
 -- 7 to 9, of one train
 abbrev pub oneTrainRules : Line → Train → List Rule
-oneTrainRules l t = decided (λ r. r .kept l t) trainTests
+oneTrainRules l t = trainRulesBy (bandsRule t) (stopsRule l t) (lastBlockRule l t)
 
--- 7 to 9, of the first n trains: each rule goes over all trains before the next, so a lower number anywhere in the file wins
+-- 7 to 9, of the first n trains: each rule goes over all trains before the next
 abbrev pub everyTrainRules : Line → (ℕ → Train) → ℕ → List Rule
-everyTrainRules l train n = decided (λ r. every n (λ k. r .kept l (train k))) trainTests
+everyTrainRules l train n =
+    trainRulesBy (every n (λ k. bandsRule (train k))) (every n (λ k. stopsRule l (train k))) (every n (λ k. lastBlockRule l (train k)))
 
--- 1 to 9, of a file
+-- the file's rules: 1 to 9 and 15
 abbrev pub fileRules : List ℕ → List Rule
 fileRules file =
     lengthRules file
     ++ (rule 3 (sizesRule file) ∷ (lineRules (lineOf file) ++ everyTrainRules (lineOf file) (trainOf file) (trainCount file)))
 
--- 3 to 9, of one train on a line
+-- 3 to 9 and 15, of one train on a line
 abbrev pub rulesOn : Line → Train → List Rule
 rulesOn l t = rule 3 (sizesOn l t) ∷ (lineRules l ++ oneTrainRules l t)
 

@@ -1,12 +1,13 @@
--- Document 01, "The run": braking loss, cap, traction step, permitted rows and the run. Squared speeds are squares of hundredths of
--- a km/h.
+-- Document 01, "The run", with the grown length of document 02, "Req 04": braking loss, cap, traction step, permitted rows and the run.
+-- Squared speeds are squares of hundredths of a km/h.
 use Prim.Native.Nat.{ℕ, zero, suc, _+_, _-_, _*_, _≤_, _<_, min, max}
 use mathlib.Core.Bool.{Bool, true, false, cond}
 use mathlib.Core.List.{List, [], _∷_}
+use mathlib.Core.Option.{Option, none, some}
 use mathlib.Core.Path.{_≡_}
 use lib.Dec.{leb, eqb}
 use lib.ListN.{length}
-use Rattle.rules.specs.Count.{entry, row, lowestFrom, ceilDiv}
+use Rattle.rules.specs.Count.{entry, row, lowestFrom, lastBelow, ceilDiv}
 use Rattle.rules.specs.Line.{Line, Train, practiceRate}
 
 -- the square of 100 times a speed in km/h
@@ -21,11 +22,38 @@ change rate L = rate * 2592 * L
 unfoldable pub brakingLoss : Line → Train → ℕ
 brakingLoss l t = change (practiceRate (t .class)) (l .step)
 
--- ---- the cap
-
--- n, the train's length in steps, rounded up
+-- n, the train's length in steps, rounded up: rule 9 and the holds go by it
 unfoldable pub trainCells : Line → Train → ℕ
 trainCells l t = ceilDiv (t .trainLength) (l .step)
+
+-- ---- position uncertainty: the train's length, for the cap alone
+
+-- the place of balise k, in m from point 0
+unfoldable pub balisePlace : Line → ℕ → ℕ
+balisePlace l k = entry (l .balisePoints) k * l .step + entry (l .baliseMetres) k
+
+-- the latest balise at or before the head, which is at point i
+unfoldable pub latestBalise : Line → ℕ → Option ℕ
+latestBalise l i = lastBelow (length (l .balisePoints)) (λ k. leb (balisePlace l k) (i * l .step))
+
+-- the balise's place, or that of point 0 where there is none
+abbrev pub placeOr0 : Line → Option ℕ → ℕ
+placeOr0 l none = 0
+placeOr0 l (some k) = balisePlace l k
+
+-- the distance, in m, from the latest balise at or before the head, else from point 0
+unfoldable pub distance : Line → ℕ → ℕ
+distance l i = i * l .step - placeOr0 l (latestBalise l i)
+
+-- the length grown by 2 m and by the distance divided by 50, rounded up
+unfoldable pub grownLength : Line → Train → ℕ → ℕ
+grownLength l t i = t .trainLength + 2 + ceilDiv (distance l i) 50
+
+-- n of the grown length, with the head at point i
+unfoldable pub grownCells : Line → Train → ℕ → ℕ
+grownCells l t i = ceilDiv (grownLength l t i) (l .step)
+
+-- ---- the cap
 
 -- The limit of cell c: a limit holds from the cell at its point up to the next limit's point. `v` is what held before.
 unfoldable pub limitFrom : ℕ → List ℕ → List ℕ → ℕ → ℕ
@@ -51,9 +79,9 @@ lowestCovered limit m n points i =
     let first : ℕ = i - n in
     lowestFrom limit m first (min (i + 1) (points - 1) - first)
 
--- the lowest of the limits of cells i - n to i that exist and the last band's top, in km/h
+-- the lowest of the limits of cells i - n to i that exist, n that of the grown length, and the last band's top, in km/h
 unfoldable pub capSpeed : Line → Train → ℕ → ℕ
-capSpeed l t i = lowestCovered (cellLimit l) (lastTop t) (trainCells l t) (l .points) i
+capSpeed l t i = lowestCovered (cellLimit l) (lastTop t) (grownCells l t i) (l .points) i
 
 -- point i is among the points listed
 unfoldable pub listed : ℕ → List ℕ → Bool

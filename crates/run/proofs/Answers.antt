@@ -30,6 +30,7 @@ decoded-parallel l t =
     record {
       limits = length-row _ (l .«limit_count») ∙ sym (length-row _ (l .«limit_count»));
       blocks = length-row _ (l .«block_count») ∙ sym (length-row _ (l .«block_count»));
+      balises = length-row _ (l .«balise_count») ∙ sym (length-row _ (l .«balise_count»));
       bands = length-row _ (t .«band_count») ∙ sym (length-row _ (t .«band_count»));
       stops = length-row _ (t .«stop_count») ∙ sym (length-row _ (t .«stop_count»));
     }

@@ -1,6 +1,6 @@
 -- The forward sweep, one point after the other. Assumes nothing.
 use Prim.Native.Nat.{ℕ, zero, suc, _+_, _≤_, min}
-use mathlib.Core.Bool.{Bool, cond}
+use mathlib.Core.Bool.{Bool, true, false, cond}
 use mathlib.Core.Path.{_≡_, refl, _∙_}
 use native.Mathlib.Nat.{le-trans}
 use native.Mathlib.Omega.{arith}
@@ -9,11 +9,7 @@ use Rattle.rules.specs.Run.{squared, lastTop, listed, capSpeed, capOf, cap, tra
 use Rattle.rules.specs.Admitted.{Admitted}
 use Rattle.rules.proofs.Step.{step-mono, step-keeps, squared-most, last-top-most}
 use Rattle.rules.proofs.Cap.{cap-top}
-
--- w is the entry before point i; before point 0 it is above every cap
-pub record Before (l : Line) (t : Train) (i w : ℕ) : Type 0 where
-  pub at-start : i ≡ 0 → w ≡ 900000000
-  pub later : (j : ℕ) → i ≡ suc j → w ≡ forward l t j
+use Rattle.run.specs.Forward.{Before}
 
 pub before-start : (l : Line) (t : Train) → Before l t 0 900000000
 before-start l t = record { at-start = λ e. refl; later = λ j e. absurd (omega arith) }
@@ -38,3 +34,8 @@ module _ (l : Line) (t : Train) (a : Admitted l t) where
   pub cap-at : (i : ℕ) {lowest : ℕ} {b : Bool} {v : ℕ} → lowest ≡ capSpeed l t i → b ≡ listed i (t .stops) → v ≡ cond b 0 (squared lowest) → v ≡ cap l t i
   unfolding cap capOf
   cap-at i u e q = q ∙ rw (e, u)
+
+-- a cap is at most the square of its speed
+pub capped-most : (b : Bool) {c m : ℕ} → c ≡ cond b 0 m → c ≤ m
+capped-most true e = omega arith
+capped-most false e = omega arith

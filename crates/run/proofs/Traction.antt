@@ -13,7 +13,7 @@ use Rattle.rules.specs.Run.{squared, change, brakingLoss, lastOr, lastTop, trac
 use Rattle.rules.specs.Admitted.{Admitted}
 use Rattle.rules.specs.Meaning.{bandPart}
 use Rattle.rules.proofs.Count.{below-suc, at-most-greatest, greatest-at-most, length-row, entry-row}
-use Rattle.rules.proofs.Step.{practice-most, squared-most, last-top, step-is}
+use Rattle.rules.proofs.Step.{practice-most, squared-mono, squared-most, last-top, step-is}
 use Rattle.values.specs.Values.{asTrain}
 use Rattle.values.specs.declared.decoded.Train as decoded
 use Rattle.run.specs.declared.bands.Bands.{Bands}
@@ -108,6 +108,7 @@ module _ (l : Line) (t : Train) (a : Admitted l t) (b : Bands) (h : IsBands l t 
         count-most = omega arith;
         gain-most = λ k m. rw (h .gain k m) (change-most (a .rule7 .rate-most k (omega arith)) (a .rule3Line .step-most));
         square-most = λ k m. rw (h .square k m) (squared-most (a .rule7 .top-most k (omega arith)));
+        squares-rise = λ k m. rw (h .square k (omega arith), h .square (suc k) m) (squared-mono (omega (arith, a .rule7 .rise k (omega arith))));
       }
 
   part-is : (w k : ℕ) → k < b .count → min (w + entry (b .gains) k) (entry (b .squares) k) ≡ bandPart l t w k

@@ -8,7 +8,7 @@ use Rattle.rules.specs.Time.{runTimes}
 use Rattle.rules.specs.Refusal.{rule, refusal, rulesOn, buffersLong}
 use Rattle.rules.specs.Calls.{lentAfter}
 
--- rules 3 to 9, then 11, by the lengths of the lent buffers
+-- the file's rules from 3 on, then 11, by the lengths of the lent buffers
 unfoldable pub runRefusalOn : Line → Train → ℕ → ℕ → ℕ
 runRefusalOn l t speeds times = refusal (rulesOn l t ++ (rule 11 (buffersLong l speeds times) ∷ []))
 

@@ -1,3 +1,4 @@
 pub mod Traction
+pub mod Forward
 pub mod Calls
 pub mod Times

@@ -13,6 +13,10 @@ use Rattle.run.specs.declared.bands.Bands.{Bands}
 abbrev pub Falls : ℕ → List ℕ → Type 0
 Falls count gains = (k : ℕ) → suc k < count → entry gains (suc k) ≤ entry gains k
 
+-- no top is below the one before it
+abbrev pub Rises : ℕ → List ℕ → Type 0
+Rises count squares = (k : ℕ) → suc k < count → entry squares k ≤ entry squares (suc k)
+
 -- b holds the bands of t for the step of l
 pub record IsBands (l : Line) (t : Train) (b : Bands) : Type 0 where
   pub count : b .count ≡ length (t .tops)
@@ -20,8 +24,9 @@ pub record IsBands (l : Line) (t : Train) (b : Bands) : Type 0 where
   pub square : (k : ℕ) → k < b .count → entry (b .squares) k ≡ squared (entry (t .tops) k)
   pub falls : b .falling ≡ true → Falls (b .count) (b .gains)
 
--- bounds that keep a traction step within 32 bits
+-- bounds that keep a traction step within 32 bits, and tops in order
 pub record BandBounds (count : ℕ) (gains squares : List ℕ) : Type 0 where
   pub count-most : count ≤ 8
   pub gain-most : (k : ℕ) → k < count → entry gains k ≤ 51840000
   pub square-most : (k : ℕ) → k < count → entry squares k ≤ 900000000
+  pub squares-rise : Rises count squares

@@ -13,7 +13,7 @@ ghost use Prim.Native.Nat.{ℕ, _+_, _≤_, _<_, min};
 ghost use Rattle.rules.specs.Admitted.{Admitted};
 ghost use Rattle.rules.specs.Count.{entry, greatestBelow};
 ghost use Rattle.values.specs.Values.{asLine, asTrain};
-ghost use Rattle.run.specs.Traction.{Falls, IsBands, BandBounds};
+ghost use Rattle.run.specs.Traction.{Falls, Rises, IsBands, BandBounds};
 
 // Of each band the squared speed gained over one step, and the square of 100 times its top; and whether the gains fall from band to band.
 pub struct Bands {
@@ -82,12 +82,27 @@ fn greatest_part(
     best
 }
 
-// The first band whose top is above w, or the count where there is none.
-fn band_above(count: usize, squares: &[u32; 8], w: SquaredSpeed) -> usize
-    requires { ⌜ count ≤ 8 ⌝ }
+// Where the search of a band begins: with the guess, if the top before it is not above w, else with the first. Any guess will do.
+fn first_tried(count: usize, squares: &[u32; 8], guess: usize, w: SquaredSpeed) -> usize
+    requires { ⌜ (count ≤ 8) × Rises count (now squares) ⌝ }
     ensures { λ r. ⌜ (r ≤ count) × ((k : ℕ) → k < r → entry (now (squares .entry)) k ≤ w .0) ⌝ }
 {
-    let mut k = 0;
+    if 0 < guess {
+        if guess < count {
+            if squares[guess - 1] <= w.0 {
+                return guess;
+            }
+        }
+    }
+    0
+}
+
+// The first band whose top is above w, or the count where there is none.
+pub(crate) fn band_above(count: usize, squares: &[u32; 8], guess: usize, w: SquaredSpeed) -> usize
+    requires { ⌜ (count ≤ 8) × Rises count (now squares) ⌝ }
+    ensures { λ r. ⌜ (r ≤ count) × ((k : ℕ) → k < r → entry (now (squares .entry)) k ≤ w .0) ⌝ }
+{
+    let mut k = first_tried(count, squares, guess, w);
     while k < count {
         if w.0 < squares[k] {
             return k;
@@ -103,13 +118,14 @@ pub(crate) fn traction_step(
     gains: &[u32; 8],
     squares: &[u32; 8],
     falling: bool,
+    band: usize,
     w: SquaredSpeed,
 ) -> SquaredSpeed
     requires { ⌜ BandBounds count (now gains) (now squares) × (w .0 ≤ 900000000) × (falling ≡ true → Falls count (now gains)) ⌝ }
+    requires { ⌜ ((k : ℕ) → k < band → entry (now squares) k ≤ w .0) ⌝ }
     ensures { λ r. ⌜ r .0 ≡ greatestBelow count (λ k. min (w .0 + entry (now (gains .entry)) k) (entry (now (squares .entry)) k)) ⌝ }
 {
     if falling {
-        let band = band_above(count, squares, w);
         if band < count {
             let drawn = w.0 + gains[band];
             if drawn <= squares[band] {

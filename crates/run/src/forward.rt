@@ -1,11 +1,17 @@
 // The forward sweep: each squared speed at most its cap and the traction step from the one before, in one pass with no row of caps.
+use crate::bands::Bands;
+use crate::bands::band_above;
 use crate::bands::bands_of;
 use crate::bands::traction_step;
 use crate::numbers::lesser;
 use crate::numbers::squared_of;
 use crate::sweep::last_top;
+use caps::Course;
+use caps::Covered;
+use caps::balise_places;
 use caps::covered_at;
-use caps::first_covered;
+use caps::limit_places;
+use stops::Stop;
 use stops::first_stop;
 use stops::stop_ahead;
 use values::Line;
@@ -15,13 +21,15 @@ use widths::size;
 ghost use mathlib.Core.Bool.{true, cond};
 ghost use mathlib.Core.List.{_++_};
 ghost use mathlib.Core.Path.{_≡_};
-ghost use Prim.Native.Nat.{_+_, _-_, _≤_, min};
+ghost use Prim.Native.Nat.{ℕ, _+_, _-_, _≤_, _<_, min};
 ghost use lib.ListN.{length, drop};
 ghost use Rattle.rules.specs.Admitted.{Admitted};
 ghost use Rattle.rules.specs.Count.{entry, greatestBelow, row};
 ghost use Rattle.rules.specs.Run.{squared, forward};
+ghost use Rattle.stops.specs.Stops.{Apart, Behind};
 ghost use Rattle.values.specs.Values.{asLine, asTrain};
 ghost use Rattle.run.specs.Traction.{Falls, BandBounds};
+ghost use Rattle.run.specs.Forward.{SweptTo};
 
 // The cap of a speed in km/h: 0 at a stop.
 fn cap_of(stopped: bool, v: u32) -> SquaredSpeed
@@ -34,24 +42,116 @@ fn cap_of(stopped: bool, v: u32) -> SquaredSpeed
     squared_of(v)
 }
 
+// A squared speed under way, and the band by which the last step was drawn: the search for the next begins with it.
+pub struct Drawn {
+    pub w: SquaredSpeed,
+    pub band: usize,
+}
+
 // The lesser of the cap and the traction step from w. A cap at most w and the square of the last top is at most the step.
 fn capped_step(
     count: usize,
     gains: &[u32; 8],
     squares: &[u32; 8],
     falling: bool,
-    w: SquaredSpeed,
+    before: Drawn,
     cap: SquaredSpeed,
-) -> SquaredSpeed
-    requires { ⌜ BandBounds count (now gains) (now squares) × (w .0 ≤ 900000000) × (falling ≡ true → Falls count (now gains)) ⌝ }
+) -> Drawn
+    requires { ⌜ BandBounds count (now gains) (now squares) × (before .w .0 ≤ 900000000) × (falling ≡ true → Falls count (now gains)) ⌝ }
     requires { ⌜ (1 ≤ count) × (cap .0 ≤ entry (now squares) (count - 1)) ⌝ }
-    ensures { λ r. ⌜ r .0 ≡ min (cap .0) (greatestBelow count (λ k. min (w .0 + entry (now (gains .entry)) k) (entry (now (squares .entry)) k))) ⌝ }
+    ensures { λ r. ⌜ r .w .0 ≡
+        min (cap .0) (greatestBelow count (λ k. min (before .w .0 + entry (now (gains .entry)) k) (entry (now (squares .entry)) k))) ⌝ }
 {
-    if cap.0 <= w.0 {
-        return cap;
+    if cap.0 <= before.w.0 {
+        return Drawn {
+            w: cap,
+            band: before.band,
+        };
     }
-    let step = traction_step(count, gains, squares, falling, w);
-    lesser(cap, step)
+    let band = band_above(count, squares, before.band, before.w);
+    let step = traction_step(count, gains, squares, falling, band, before.w);
+    Drawn {
+        w: lesser(cap, step),
+        band,
+    }
+}
+
+// What a sweep carries from point to point: the squared speed of the point before, and the next stop.
+pub struct Swept {
+    pub drawn: Drawn,
+    pub stop: Stop,
+}
+
+// Before point 0. The step from the greatest squared speed is at least any cap, so point 0 gets its cap.
+fn swept_from(stop: Stop) -> Swept
+    ensures { λ r. ⌜ (r .drawn .w .0 ≡ 900000000) × (r .stop ≡ stop) ⌝ }
+{
+    Swept {
+        drawn: Drawn {
+            w: SquaredSpeed(900000000),
+            band: 0,
+        },
+        stop,
+    }
+}
+
+// Sweeps over the points from `from` up to `end`, at which the lowest limit is the same.
+fn write_stretch(
+    bands: Bands,
+    stop_points: &[u16; 64],
+    stop_count: usize,
+    lowest: u32,
+    from: usize,
+    end: usize,
+    speeds: &mut [u32],
+    before: Swept,
+) -> Swept
+    requires { ⌜ BandBounds (bands .count) (bands .gains) (bands .squares) × (bands .falling ≡ true → Falls (bands .count) (bands .gains)) ⌝ }
+    requires { ⌜ (1 ≤ bands .count) × (squared lowest ≤ entry (bands .squares) (bands .count - 1)) × (lowest ≤ 300) ⌝ }
+    requires { ⌜ before .drawn .w .0 ≤ 900000000 ⌝ }
+    requires { ⌜ («stop_count» ≤ 64) × Apart (row (entry (now «stop_points»)) «stop_count») ⌝ }
+    requires { ⌜ Behind (row (entry (now «stop_points»)) «stop_count») (before .stop) from ⌝ }
+    requires { ⌜ (from ≤ end) × (end ≤ length (now speeds)) × (end ≤ 65536) ⌝ }
+    ensures carried { λ r. ⌜ Behind (row (entry (now («stop_points» .entry))) «stop_count») (r .stop) end × (r .drawn .w .0 ≤ 900000000) ⌝ }
+    ensures speeds { λ r. ⌜ SweptTo bands (row (entry (now («stop_points» .entry))) «stop_count») lowest from end end (before .drawn .w .0)
+        (r .drawn .w .0) (now (speeds .entry)) (now (speeds .exit)) ⌝ }
+{
+    let gains = bands.gains;
+    let squares = bands.squares;
+    let mut drawn = before.drawn;
+    let mut stop = before.stop;
+    let mut i = from;
+    while i < end {
+        stop = stop_ahead(stop_points, stop_count, stop, i);
+        let cap = cap_of(stop.point == i, lowest);
+        drawn = capped_step(bands.count, &gains, &squares, bands.falling, drawn, cap);
+        speeds[i] = drawn.w.0;
+        i += 1;
+    }
+    Swept { drawn, stop }
+}
+
+// Where a stretch from point i on ends: before `until`, but after i, and with the line.
+fn stretch_end(until: usize, i: usize, points: u16) -> usize
+    requires { ⌜ i < points ⌝ }
+    ensures { λ r. ⌜ (i < r) × (r ≤ points) × ((j : ℕ) → i < j → j < r → j < until) ⌝ }
+{
+    let end = size(points);
+    if until <= i {
+        return i + 1;
+    }
+    if end < until {
+        return end;
+    }
+    until
+}
+
+// A point of the line as the file counts it.
+fn narrow_point(i: usize) -> u16
+    requires { ⌜ i < 65536 ⌝ }
+    ensures { λ r. ⌜ r ≡ i ⌝ }
+{
+    i as u16
 }
 
 pub(crate) fn write_forward(line: Line, train: Train, speeds: &mut [u32])
@@ -60,25 +160,43 @@ pub(crate) fn write_forward(line: Line, train: Train, speeds: &mut [u32])
     ensures { λ _. ⌜ now (speeds .exit) ≡ row (forward (asLine line) (asTrain train)) (line .points) ++ drop (line .points) (now (speeds .entry)) ⌝ }
 {
     let points = size(line.points);
-    let limit_points = line.limit_points;
     let limits = line.limits;
+    let begun = limit_places(line);
+    let balises = balise_places(line);
+    let limits_at = begun.at;
+    let balises_at = balises.at;
+    let course = Course {
+        limit_count: begun.count,
+        balise_count: balises.count,
+        step: line.step,
+        length: train.length,
+        top: last_top(train),
+    };
     let stop_points = train.stops;
-    let n = values::train_cells(line, train);
-    let top = last_top(train);
     let bands = bands_of(line, train);
-    let gains = bands.gains;
-    let squares = bands.squares;
-    let mut covered = first_covered(&limit_points, &limits, line.limit_count, top, n);
-    let mut stop = first_stop(&stop_points, train.stop_count);
-    // The step from the greatest squared speed is at least any cap, so point 0 gets its cap.
-    let mut w = SquaredSpeed(900000000);
+    let mut covered = Covered::START;
+    let mut swept = swept_from(first_stop(&stop_points, train.stop_count));
     let mut i = 0;
     while i < points {
-        stop = stop_ahead(&stop_points, train.stop_count, stop, i);
-        let cap = cap_of(stop.point == i, covered.lowest);
-        w = capped_step(bands.count, &gains, &squares, bands.falling, w, cap);
-        speeds[i] = w.0;
-        i += 1;
-        covered = covered_at(&limit_points, &limits, line.limit_count, top, n, i, covered);
+        covered = covered_at(
+            &limits_at,
+            &limits,
+            &balises_at,
+            course,
+            narrow_point(i),
+            covered,
+        );
+        let end = stretch_end(covered.until, i, line.points);
+        swept = write_stretch(
+            bands,
+            &stop_points,
+            train.stop_count,
+            covered.lowest,
+            i,
+            end,
+            speeds,
+            swept,
+        );
+        i = end;
     }
 }

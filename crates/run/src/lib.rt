@@ -39,7 +39,7 @@ fn write_run(line: Line, train: Train, speeds: &mut [u32], times: &mut [u64])
     write_times(line, train, speeds, times);
 }
 
-// The run of a decoded train on a decoded line: rules 3 to 9 and 11, whatever the two hold. A refusal leaves both buffers as they came.
+// The run of a decoded train on a decoded line: the file's rules from 3 on and 11, whatever the two hold. A refusal leaves both buffers as they came.
 pub fn run_train(line: Line, train: Train, speeds: &mut [u32], times: &mut [u64]) -> u64
     ensures number { λ r. ⌜ r ≡ runRefusalOn (asLine line) (asTrain train) (length (now (speeds .entry))) (length (now (times .entry))) ⌝ }
     ensures speeds { λ r. ⌜ now (speeds .exit) ≡ speedsOn (asLine line) (asTrain train) (now (speeds .entry)) (now (times .entry)) ⌝ }
@@ -62,7 +62,7 @@ pub fn run_train(line: Line, train: Train, speeds: &mut [u32], times: &mut [u64]
     0
 }
 
-// The run call: rules 1 to 11 for train k of a file. Of an accepted call the first P entries of `speeds` are the run, those of `times` its
+// The run call: the file's rules, 10 and 11 for train k of a file. Of an accepted call the first P entries of `speeds` are the run, those of `times` its
 // arrivals; no permitted rival reaches a point before. A refusal leaves both buffers as they came.
 pub fn run(file: &[u8], k: u64, speeds: &mut [u32], times: &mut [u64]) -> u64
     ensures number { λ r. ⌜ r ≡ runRefusal (now (file .entry)) k (length (now (speeds .entry))) (length (now (times .entry))) ⌝ }

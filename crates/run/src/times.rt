@@ -66,7 +66,7 @@ pub(crate) fn write_times(line: Line, train: Train, speeds: &[u32], times: &mut 
     let mut stop = first_stop(&stop_points, train.stop_count);
     let mut time = 0;
     let mut cell = CellTime { sum: 0, time: 0 };
-    let mut kept = [0u16; 512];
+    let mut kept = [0u16; 1024];
     let mut here = root(SquaredSpeed(speeds[0]));
     while i < last {
         times[i] = time;

@@ -12,7 +12,7 @@ use Rattle.rules.specs.Calls.{written, lentAfter, fileRefusal}
 use Rattle.rules.specs.Count.{_and_, orZero}
 use Rattle.rules.specs.File.{trainCount}
 use Rattle.rules.specs.Numbers.{AnswersBy}
-use Rattle.rules.specs.Refusal.{rule, refusal, decided, fileRules}
+use Rattle.rules.specs.Refusal.{rule, refusal, fileRules}
 use Rattle.rules.proofs.Accepted.{file-first, file-passed}
 use Rattle.rules.proofs.Calls.{lent-written, lent-kept}
 use Rattle.rules.proofs.Numbers.{Judges, judges-none, judges-first, judges-file, both-kept, answers-by}
@@ -32,7 +32,6 @@ module _ (file : List ℕ) (starts runs blocks : ℕ) where
       (λ e. let h = t .0 e in (h .0, h .1 .0, h .1 .1), λ h. t .1 (h .0, (h .1, h .2)))
 
   judges-rows : Judges (fileRules file ++ (rule 11 long ∷ [])) (rowsChecks file starts runs blocks)
-  unfolding decided
   judges-rows = judges-file file (judges-first tied judges-none)
 
   pub answer-number :

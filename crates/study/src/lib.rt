@@ -97,7 +97,7 @@ fn write_rows(
     write_rows_with(file, opened, &mut speeds, &mut times, starts, runs, blocks);
 }
 
-// The start, the running time and the block of each train of a file, in its order: rules 1 to 9, then 11 where a slice has fewer places than
+// The start, the running time and the block of each train of a file, in its order: the file's rules, then 11 where a slice has fewer places than
 // the file has trains. A refusal leaves the slices as they came, and places behind the trains keep their values.
 pub fn rows(file: &[u8], starts: &mut [u64], runs: &mut [u64], blocks: &mut [u64]) -> RowsAnswer
     ensures answer { λ r. ⌜

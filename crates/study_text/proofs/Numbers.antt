@@ -7,7 +7,7 @@ use borrow.Author.Tests.{leb-true, le-leb}
 use Rattle.rules.specs.Calls.{written, lentAfter}
 use Rattle.rules.specs.Count.{orZero}
 use Rattle.rules.specs.Numbers.{AnswersBy}
-use Rattle.rules.specs.Refusal.{rule, refusal, decided, fileRules}
+use Rattle.rules.specs.Refusal.{rule, refusal, fileRules}
 use Rattle.rules.specs.Text.{sheetText}
 use Rattle.rules.proofs.Numbers.{Judges, judges-none, judges-first, judges-file, answers-by}
 use Rattle.text.specs.Text.{writeAnswer}
@@ -15,7 +15,6 @@ use Rattle.study_text.specs.Study.{studyRefusal, studyChecks}
 
 module _ (file : List ℕ) where
   judges-study : (bytes : ℕ) → Judges (fileRules file ++ (rule 11 (leb (length (sheetText file)) bytes) ∷ [])) (studyChecks file bytes)
-  unfolding decided
   judges-study bytes = judges-file file (judges-first (leb-true (length (sheetText file)) bytes, le-leb (length (sheetText file)) bytes) judges-none)
 
   pub answer-number :

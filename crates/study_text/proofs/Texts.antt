@@ -171,7 +171,7 @@ module _ (input : List ℕ) where
                 let short : length (sheetText input) ≤ m = omega (arith, text-most input ok) in
                 rw length-replicate at (room-kept (sheetText input) m short)
 
-    pub refused-printed : {n : ℕ} → n ≡ studyRefusal input m → (n ≡ 0 → ⊥) → (n ≤ 9) × (refusalText n ≡ programText input)
+    pub refused-printed : {n : ℕ} → n ≡ studyRefusal input m → (n ≡ 0 → ⊥) → (n ≤ 99) × (refusalText n ≡ programText input)
     refused-printed {n} e h =
         let same : n ≡ fileRefusal input = e ∙ told in
         (omega (arith, file-most input), ap refusalText same ∙ sym (program-whole input le ∙ text-refused input (λ z. h (same ∙ z))))

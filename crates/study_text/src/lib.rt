@@ -20,7 +20,7 @@ pub struct ProgramText {
     pub bytes: usize,
 }
 
-// The sheet of a whole file as text: rules 1 to 9, then 11 where the text does not fit. A refusal leaves the lent bytes as they came.
+// The sheet of a whole file as text: the file's rules, then 11 where the text does not fit. A refusal leaves the lent bytes as they came.
 pub fn study(file: &[u8], text: &mut [u8]) -> WriteAnswer
     ensures answer { λ r. ⌜
         r ≡ writeAnswer (studyRefusal (now (file .entry)) (length (now (text .entry)))) (sheetText (now (file .entry))) ⌝ }
@@ -44,7 +44,7 @@ pub fn study(file: &[u8], text: &mut [u8]) -> WriteAnswer
 }
 
 fn refusal_printed(number: u64) -> ProgramText
-    requires { ⌜ number ≤ 9 ⌝ }
+    requires { ⌜ number ≤ 99 ⌝ }
     ensures { λ r. ⌜ (r .text ≡ padded 2390 (refusalText number)) × (r .bytes ≡ length (refusalText number)) ⌝ }
 {
     let mut text = [0u8; 2390];

@@ -18,6 +18,8 @@ asLine l =
       limits = row (entry (l .limits)) (l .«limit_count»);
       blockStarts = row (entry (l .«block_starts»)) (l .«block_count»);
       blockEnds = row (entry (l .«block_ends»)) (l .«block_count»);
+      balisePoints = row (entry (l .«balise_points»)) (l .«balise_count»);
+      baliseMetres = row (entry (l .«balise_metres»)) (l .«balise_count»);
     }
 
 abbrev pub asTrain : Train → rules.Train
@@ -49,6 +51,9 @@ noLine =
       «block_count» = 0;
       «block_starts» = zeros;
       «block_ends» = zeros;
+      «balise_count» = 0;
+      «balise_points» = zeros;
+      «balise_metres» = zeros;
     }
 
 abbrev pub noTrain : Train

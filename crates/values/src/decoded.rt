@@ -16,6 +16,10 @@ pub struct Line {
     pub block_count: usize,
     pub block_starts: [u16; 64],
     pub block_ends: [u16; 64],
+    // Balises: points, and the metres past each.
+    pub balise_count: usize,
+    pub balise_points: [u16; 64],
+    pub balise_metres: [u16; 64],
 }
 
 pub struct Train {
@@ -45,6 +49,9 @@ impl Line {
         block_count: 0,
         block_starts: [0; 64],
         block_ends: [0; 64],
+        balise_count: 0,
+        balise_points: [0; 64],
+        balise_metres: [0; 64],
     };
 }
 

@@ -1,11 +1,20 @@
-// Numbers of a train on a line that rule 9, its run and its holds go by, whatever the two hold.
+// Numbers of a line and of a train on it that the rules, the run and the holds go by, whatever the two hold.
 use crate::decoded::Line;
 use crate::decoded::Train;
 use widths::size;
+use widths::wide;
 use widths::wide64;
 ghost use mathlib.Core.Path.{_≡_};
+ghost use Prim.Native.Nat.{_+_, _*_, _<_};
 ghost use Rattle.rules.specs.Run.{brakingLoss, trainCells};
 ghost use Rattle.values.specs.Values.{asLine, asTrain};
+
+// The place, in m from point 0, of what lies so many metres past a point.
+pub fn place_of(point: u16, metres: u16, step: u16) -> u32
+    ensures { λ r. ⌜ (r ≡ point * step + metres) × (r < 4294967295) ⌝ }
+{
+    wide(point) * wide(step) + wide(metres)
+}
 
 // G, the squared speed lost over one step at the practice braking rate.
 pub fn braking_loss(line: Line, train: Train) -> u64

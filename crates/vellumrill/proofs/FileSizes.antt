@@ -8,7 +8,7 @@ use Rattle.rules.specs.Calls.{fileRefusal}
 use Rattle.rules.specs.Count.{orZero}
 use Rattle.rules.specs.File.{pointCount, stepLength, blockCount, trainCount, trainsAt}
 use Rattle.rules.specs.Numbers.{AnswersBy, fileChecks}
-use Rattle.rules.specs.Refusal.{refusal, decided, fileRules}
+use Rattle.rules.specs.Refusal.{refusal, fileRules}
 use Rattle.rules.proofs.Numbers.{Judges, judges-none, judges-file, answers-by}
 use Rattle.reading.specs.Decoded.{decodedLine}
 use Rattle.line.specs.Answers.{refusedFile, openedFile}
@@ -39,7 +39,6 @@ module _ (file : List ℕ) where
   sizes-told e p s = rw (p, s, e) opened-sizes
 
   judges : Judges (fileRules file) (fileChecks file)
-  unfolding decided
   judges = judges-file file judges-none
 
   pub sizes-number :

@@ -43,7 +43,7 @@ pub struct Sizes {
     pub trains: u64,
 }
 
-// Rules 1 to 9.
+// The file's rules.
 #[no_mangle]
 pub extern "C" fn vr_check_file(file: &[u8]) -> u64
     ensures { λ r. ⌜ r ≡ fileRefusal (now (file .entry)) ⌝ }
@@ -51,7 +51,7 @@ pub extern "C" fn vr_check_file(file: &[u8]) -> u64
     line::check_file(file)
 }
 
-// Rules 1 to 10.
+// The file's rules and 10.
 #[no_mangle]
 pub extern "C" fn vr_check_train(file: &[u8], k: u64) -> u64
     ensures { λ r. ⌜ r ≡ trainRefusal (now (file .entry)) k ⌝ }
@@ -59,7 +59,7 @@ pub extern "C" fn vr_check_train(file: &[u8], k: u64) -> u64
     line::check_train(file, k)
 }
 
-// Rules 1 to 10. The record of train k is the part of the file that begins at byte `start` and has `length` bytes; 0 and 0 on a refusal.
+// The file's rules and 10. The record of train k is the part of the file that begins at byte `start` and has `length` bytes; 0 and 0 on a refusal.
 #[no_mangle]
 pub extern "C" fn vr_train_record(file: &[u8], k: u64) -> RecordPlace
     ensures { λ r. ⌜ asRecordPlace r ≡ recordPlace (now (file .entry)) k ⌝ }
@@ -67,7 +67,7 @@ pub extern "C" fn vr_train_record(file: &[u8], k: u64) -> RecordPlace
     line::record_place(file, k)
 }
 
-// The sizes of an accepted file, rules 1 to 9.
+// The sizes of an accepted file, by the file's rules.
 #[no_mangle]
 pub extern "C" fn vr_sizes(file: &[u8]) -> Sizes
     ensures { λ r. ⌜ r ≡ fileSizes (now (file .entry)) ⌝ }
@@ -83,7 +83,7 @@ pub extern "C" fn vr_sizes(file: &[u8]) -> Sizes
     }
 }
 
-// The run call, rules 1 to 11. Of an accepted call the first P entries of `speeds` are the run, those of `times` its arrivals; no permitted
+// The run call, by the file's rules, 10 and 11. Of an accepted call the first P entries of `speeds` are the run, those of `times` its arrivals; no permitted
 // rival reaches a point before. A refusal leaves both buffers as they came.
 #[no_mangle]
 pub extern "C" fn vr_run(file: &[u8], k: u64, speeds: &mut [u32], times: &mut [u64]) -> u64
@@ -97,7 +97,7 @@ pub extern "C" fn vr_run(file: &[u8], k: u64, speeds: &mut [u32], times: &mut [u
     run::run(file, k, speeds, times)
 }
 
-// The hold call, rules 1 to 11. The buffers end as after the run call.
+// The hold call, by the file's rules, 10 and 11. The buffers end as after the run call.
 #[no_mangle]
 pub extern "C" fn vr_hold(file: &[u8], k: u64, speeds: &mut [u32], times: &mut [u64]) -> HoldAnswer
     ensures answer { λ r. ⌜ asHoldAnswer r ≡ held (now (file .entry)) k (length (now (speeds .entry))) (length (now (times .entry))) ⌝ }
@@ -156,7 +156,7 @@ pub extern "C" fn vr_period(sheet: &Sheet) -> PeriodAnswer
     sheet::period(present)
 }
 
-// The start, the running time and the block of each train of a file: rules 1 to 9, then 11 where a slice has fewer places than the file has
+// The start, the running time and the block of each train of a file: the file's rules, then 11 where a slice has fewer places than the file has
 // trains. A refusal leaves the slices as they came, and places behind the trains keep their values.
 #[no_mangle]
 pub extern "C" fn vr_rows(
@@ -187,7 +187,7 @@ pub extern "C" fn vr_rows(
     study::rows(file, starts, runs, blocks)
 }
 
-// The sheet of a whole file as text: rules 1 to 9, then 11 where the text does not fit. A refusal leaves the lent bytes as they came.
+// The sheet of a whole file as text: the file's rules, then 11 where the text does not fit. A refusal leaves the lent bytes as they came.
 #[no_mangle]
 pub extern "C" fn vr_study(file: &[u8], text: &mut [u8]) -> WriteAnswer
     ensures answer { λ r. ⌜
@@ -200,7 +200,7 @@ pub extern "C" fn vr_study(file: &[u8], text: &mut [u8]) -> WriteAnswer
     study_text::study(file, text)
 }
 
-// The speed-distance diagram of train k: rules 1 to 10, then 11 where the lent bytes have no room for every point. The bytes carry the
+// The speed-distance diagram of train k: the file's rules and 10, then 11 where the lent bytes have no room for every point. The bytes carry the
 // run's own figures, and those behind them keep their values. A refusal leaves every byte as it came.
 #[no_mangle]
 pub extern "C" fn vr_diagram(file: &[u8], k: u64, bytes: &mut [u8]) -> WriteAnswer

@@ -12,7 +12,7 @@ use Rattle.run.proofs.run_train.Tie as tie
 abbrev start : tie.After-size → tie.Start
 start c = c .before .before .before .before .before
 
--- rules 3 to 9 are kept
+-- the rules of a train on a line are kept
 kept : (c : tie.After-size) → refusal (rulesOn (asLine (start c .args .line)) (asTrain (start c .args .train))) ≡ 0
 kept c = sym (c .before .before .refusal-on .ensures) ∙ c .before .if1 .left
 

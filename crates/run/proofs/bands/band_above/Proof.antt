@@ -7,13 +7,16 @@ use Rattle.run.proofs.bands.band_above.Statement.{statement}
 use Rattle.run.proofs.bands.band_above.Tie as tie
 
 abbrev Inv-loop : tie.InvT-loop
-Inv-loop count squares w k₀ k = (k ≤ count) × ((j : ℕ) → j < k → entry squares j ≤ w .0)
+Inv-loop count squares guess w k₀ k = (k ≤ count) × ((j : ℕ) → j < k → entry squares j ≤ w .0)
 
 abbrev μ-loop : tie.MeasureT-loop
-μ-loop count squares w k₀ k = count - k
+μ-loop count squares guess w k₀ k = count - k
+
+first-tried-requires : tie.Need-first-tried-requires Inv-loop μ-loop
+first-tried-requires c κs = c .pre
 
 loop-holds : tie.Need-loop-holds Inv-loop μ-loop
-loop-holds c = (search needs, λ j h. absurd (omega arith))
+loop-holds c = c .first-tried .ensures
 
 mul-if1 : tie.Need-mul-if1 Inv-loop μ-loop
 mul-if1 c = search needs
@@ -33,10 +36,10 @@ loop-less c = search needs
 loop-again : tie.Need-loop-again Inv-loop μ-loop
 loop-again c =
     let o = c .before .before .before .before in
-    (search needs, passed-more (o .before .args .squares .now) (o .loop .inv .1) (omega (arith, c .if1 .left)))
+    (search needs, passed-more (o .before .before .args .squares .now) (o .loop .inv .1) (omega (arith, c .if1 .left)))
 
 returns-2 : tie.Need-returns-2 Inv-loop μ-loop
 returns-2 c = c .before .loop .inv
 
 pub band-above-spec : {M : Type 1} → statement M
-band-above-spec = tie.close (tie.spec Inv-loop μ-loop loop-holds mul-if1 element-copy-out-if1 returns add-k loop-less loop-again returns-2)
+band-above-spec = tie.close (tie.spec Inv-loop μ-loop first-tried-requires loop-holds mul-if1 element-copy-out-if1 returns add-k loop-less loop-again returns-2)

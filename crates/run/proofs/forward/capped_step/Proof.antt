@@ -7,11 +7,14 @@ use Rattle.run.proofs.forward.capped_step.Tie as tie
 returns : tie.Need-returns
 returns c =
     let a = c .before .before .before in
-    cap-reached (a .args .count) (a .args .gains .now) (a .args .squares .now) (a .args .w .0) (a .args .cap .0) (a .pre .1 .0)
+    cap-reached (a .args .count) (a .args .gains .now) (a .args .squares .now) (a .args .before .w .0) (a .args .cap .0) (a .pre .1 .0)
     (omega (arith, c .if1 .taken)) (a .pre .1 .1)
 
+band-above-requires : tie.Need-band-above-requires
+band-above-requires c κs = let b = c .before .before .before .pre .0 .0 in (omega (arith, b .count-most), b .squares-rise)
+
 traction-step-requires : tie.Need-traction-step-requires
-traction-step-requires c κs = search needs
+traction-step-requires c κs = let s = c .before .before .before .before in (s .pre .0, c .band-above .ensures .1)
 
 lesser-requires : tie.Need-lesser-requires
 lesser-requires c κs = search needs
@@ -20,4 +23,4 @@ returns-2 : tie.Need-returns-2
 returns-2 c = search needs
 
 pub capped-step-spec : {M : Type 1} → statement M
-capped-step-spec = tie.close (tie.spec returns traction-step-requires lesser-requires returns-2)
+capped-step-spec = tie.close (tie.spec returns band-above-requires traction-step-requires lesser-requires returns-2)

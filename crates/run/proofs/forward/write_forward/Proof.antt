@@ -1,177 +1,175 @@
 use Prim.Native.Nat.{_-_, _≤_, _<_}
-use mathlib.Core.Path.{_≡_}
-use native.Mathlib.Numerals.{add-one}
+use mathlib.Core.Logic.{inl, inr, ⊎-elim}
+use mathlib.Core.Path.{_≡_, refl, sym}
+use native.Mathlib.Nat.{eq-or-lt-of-le, le-trans}
 use native.Mathlib.Omega.{arith}
-use lib.Dec.{eqb}
 use Rattle.rules.specs.Count.{entry}
-use Rattle.rules.specs.Run.{lastTop, listed, cap, forward}
+use Rattle.rules.specs.Run.{lastTop, forward}
 use Rattle.rules.proofs.Count.{length-row}
-use Rattle.rules.proofs.Cap.{cap-top, cap-most}
-use Rattle.rules.proofs.Fill.{Filled, fill-none, fill-up, fill-done}
+use Rattle.rules.proofs.Fill.{Filled, fill-none, fill-join, fill-done}
+use Rattle.rules.proofs.Step.{squared-mono, last-top-most}
 use Rattle.values.specs.Values.{asLine, asTrain}
-use Rattle.stops.specs.Stops.{Behind, NextStop}
-use Rattle.stops.proofs.Passing.{behind-first, next-here, here-listed, behind-on}
-use Rattle.caps.proofs.Covering.{Covering, covering-first, covering-next, covering-lowest, covering-most}
+use Rattle.stops.specs.Stops.{Behind}
+use Rattle.stops.proofs.Passing.{behind-first}
+use Rattle.caps.proofs.Walk.{Known, Nearing, course-is, known-at, nearing-first, nearing-next, known-lowest, known-top}
+use Rattle.run.specs.Forward.{Before}
 use Rattle.run.specs.Traction.{IsBands}
 use Rattle.run.proofs.Traction.{count-least, count-most, bands-bounded, traction-is, last-most}
-use Rattle.run.proofs.Sweeping.{Before, before-start, before-next, forward-at, cap-at}
+use Rattle.run.proofs.Sweeping.{before-start}
 use borrow.Author.Needs.{needs}
 use Rattle.run.proofs.forward.write_forward.Statement.{statement}
 use Rattle.run.proofs.forward.write_forward.Tie as tie
 
 abbrev Inv-loop : tie.InvT-loop
-Inv-loop line train speeds₀ points limit-points limits stop-points n top bands gains squares covered₀ stop₀ w₀ i₀ speeds covered stop w i =
+Inv-loop line train speeds₀ points limits limits-at balises-at course stop-points bands covered₀ swept₀ i₀ speeds covered swept i =
     (i ≤ points)
-    × Covering line train i covered
-    × Behind (asTrain train .stops) stop i
-    × Before (asLine line) (asTrain train) i (w .0)
-    × (w .0 ≤ 900000000)
+    × Nearing (asLine line) (asTrain train) i covered
+    × Behind (asTrain train .stops) (swept .stop) i
+    × Before (asLine line) (asTrain train) i (swept .drawn .w .0)
+    × (swept .drawn .w .0 ≤ 900000000)
     × Filled (forward (asLine line) (asTrain train)) 0 i speeds₀ speeds
 
 abbrev μ-loop : tie.MeasureT-loop
-μ-loop line train speeds₀ points limit-points limits stop-points n top bands gains squares covered₀ stop₀ w₀ i₀ speeds covered stop w i =
+μ-loop line train speeds₀ points limits limits-at balises-at course stop-points bands covered₀ swept₀ i₀ speeds covered swept i =
     points - i
 
-abbrev in-loop : tie.After-cap-of Inv-loop μ-loop → tie.In-loop Inv-loop μ-loop
-in-loop c = c .before .before .before .before
+abbrev in-loop : tie.After-covered-at Inv-loop μ-loop → tie.In-loop Inv-loop μ-loop
+in-loop c = c .before .before .before .before .before
 
 abbrev begun : tie.In-loop Inv-loop μ-loop → tie.After-bands-of Inv-loop μ-loop
-begun c = c .before .before .before .before .before .before .before .before .before
+begun c = c .before .before .before .before .before
 
 abbrev start : tie.In-loop Inv-loop μ-loop → tie.Start Inv-loop μ-loop
-start c = begun c .before .before .before .before .before .before .before .before
+start c = begun c .before .before .before .before .before .before .before .before .before .before
 
 -- what was found before the loop: the bands and the last top
 bands : (c : tie.In-loop Inv-loop μ-loop) → IsBands (asLine (start c .args .line)) (asTrain (start c .args .train)) (begun c .bands-of .result)
 bands c = begun c .bands-of .ensures
 
-top : (c : tie.In-loop Inv-loop μ-loop) → begun c .before .last-top .result ≡ lastTop (asTrain (start c .args .train))
-top c = begun c .before .last-top .ensures
+top : (c : tie.In-loop Inv-loop μ-loop) → begun c .before .before .last-top .result ≡ lastTop (asTrain (start c .args .train))
+top c = begun c .before .before .last-top .ensures
 
 -- this point is on the line
 on-line : (c : tie.In-loop Inv-loop μ-loop) → c .before .loop .i < start c .args .line .points
-on-line c = omega (arith, c .loop-test .taken, begun c .before .before .before .before .before .before .size .ensures .0)
+on-line c = omega (arith, c .loop-test .taken, begun c .before .before .before .before .before .before .before .before .size .ensures .0)
 
-near : (c : tie.In-loop Inv-loop μ-loop) → c .before .loop .i < 65536
-near c = omega (arith, c .loop-test .taken, begun c .before .before .before .before .before .before .size .ensures .1)
+near : (c : tie.In-loop Inv-loop μ-loop) → start c .args .line .points < 65536
+near c = let n = begun c .before .before .before .before .before .before .before .before .size .ensures in omega (arith, n .0, n .1)
 
--- the stops in use, the next stop, whether the train stops at this point, and the cap there
+-- what the train covers at this point
+known :
+    (c : tie.After-covered-at Inv-loop μ-loop) →
+    Known (asLine (start (in-loop c) .args .line)) (asTrain (start (in-loop c) .args .train)) (in-loop c .before .loop .i) (c .covered-at .result)
+known c =
+    let o = in-loop c in
+    let balises = begun o .before .before .before .before .before in
+    let s = start o in
+    let a = s .args in
+    let course = course-is (a .line) (a .train) (s .pre .0) (balises .before .limit-places .ensures) (balises .balise-places .ensures) (top o) in
+    known-at _ _ (s .pre .0) course (o .before .loop .i) (c .before .narrow-point .ensures) (o .before .loop .inv .1) (c .covered-at .ensures)
+
+-- the stops in use
 few : (c : tie.Start Inv-loop μ-loop) → c .args .train .«stop_count» ≤ 64
 few c =
     let n = length-row (entry (c .args .train .stops)) (c .args .train .«stop_count») in
     omega (arith, c .pre .0 .rule3Train .stops-most)
 
-next-stop :
-    (c : tie.After-cap-of Inv-loop μ-loop) →
-    NextStop (asTrain (start (in-loop c) .args .train) .stops) (c .before .before .stop-ahead .result) (in-loop c .before .loop .i)
-next-stop c =
-    let o = in-loop c in
-    let s = start o in
-    next-here (s .args .train .stops) (few s) (s .pre .0 .rule8 .apart) (o .before .loop .inv .2) (c .before .before .stop-ahead .ensures)
-
-stopped : (c : tie.After-cap-of Inv-loop μ-loop) → eqb (c .before .before .stop-ahead .result .point) (in-loop c .before .loop .i) ≡
-    listed (in-loop c .before .loop .i) (asTrain (start (in-loop c) .args .train) .stops)
-stopped c =
-    let o = in-loop c in
-    let s = start o in
-    here-listed (s .args .train .stops) (few s) (s .pre .0 .rule8 .apart) (o .before .loop .inv .2) (c .before .before .stop-ahead .ensures) (near o)
-
-cap-here :
-    (c : tie.After-cap-of Inv-loop μ-loop) →
-    c .cap-of .result .0 ≡ cap (asLine (start (in-loop c) .args .line)) (asTrain (start (in-loop c) .args .train)) (in-loop c .before .loop .i)
-cap-here c =
-    let o = in-loop c in
-    let s = start o in
-    cap-at _ _ (s .pre .0) (o .before .loop .i) (covering-lowest (s .args .line) (s .args .train) (s .pre .0) (o .before .loop .inv .1) (on-line o)) (stopped c)
-    (c .cap-of .ensures)
-
 size-requires : tie.Need-size-requires Inv-loop μ-loop
 size-requires c κs = search needs
 
-train-cells-requires : tie.Need-train-cells-requires Inv-loop μ-loop
-train-cells-requires c κs = search needs
+limit-places-requires : tie.Need-limit-places-requires Inv-loop μ-loop
+limit-places-requires c κs = search needs
+
+balise-places-requires : tie.Need-balise-places-requires Inv-loop μ-loop
+balise-places-requires c κs = search needs
 
 last-top-requires : tie.Need-last-top-requires Inv-loop μ-loop
 last-top-requires c κs =
-    let s = c .before .before .before .before .before .before in
+    let s = c .before .before .before .before .before .before .before in
     (count-least _ (s .args .train) (s .pre .0), omega (arith, count-most _ (s .args .train) (s .pre .0)))
 
 bands-of-requires : tie.Need-bands-of-requires Inv-loop μ-loop
 bands-of-requires c κs = search needs
 
-first-covered-requires : tie.Need-first-covered-requires Inv-loop μ-loop
-first-covered-requires c κs = search needs
-
 first-stop-requires : tie.Need-first-stop-requires Inv-loop μ-loop
 first-stop-requires c κs = search needs
 
+swept-from-requires : tie.Need-swept-from-requires Inv-loop μ-loop
+swept-from-requires c κs = search needs
+
 loop-holds : tie.Need-loop-holds Inv-loop μ-loop
 loop-holds c =
-    let first = c .before .before in
-    let t = first .before .before .before .before .before .before in
-    let s = t .before .before .before .before .before .before .before in (
+    let stop = c .before in
+    let s = stop .before .before .before .before .before .before .before .before .before .before .before .before in (
       omega arith,
-      covering-first (s .args .line) (s .args .train) (s .pre .0) (t .last-top .ensures) (t .before .train-cells .ensures) (first .first-covered .ensures),
-      behind-first (s .args .train .stops) (few s) (c .first-stop .ensures),
-      before-start _ _,
-      omega arith,
+      nearing-first _ _ (s .pre .0) refl,
+      rw (c .swept-from .ensures .1) (behind-first (s .args .train .stops) (few s) (stop .first-stop .ensures)),
+      rw (c .swept-from .ensures .0) (before-start _ _),
+      omega (arith, c .swept-from .ensures .0),
       fill-none _ _ _,
     )
 
-stop-ahead-requires : tie.Need-stop-ahead-requires Inv-loop μ-loop
-stop-ahead-requires c κs = search needs
-
-cap-of-requires : tie.Need-cap-of-requires Inv-loop μ-loop
-cap-of-requires c κs =
-    let o = c .before .before .before in
-    let s = start o in
-    covering-most (s .args .line) (s .args .train) (s .pre .0) (o .before .loop .inv .1)
-
-capped-step-requires : tie.Need-capped-step-requires Inv-loop μ-loop
-capped-step-requires c κs =
-    let k = c .before .before in
-    let o = in-loop k in
-    let s = start o in
-    let b = bands o in
-    let m = last-most _ _ (s .pre .0) _ b in (
-      (bands-bounded _ _ (s .pre .0) _ b, o .before .loop .inv .4, b .falls),
-      (m .0, omega (arith, m .1, cap-here k, cap-top (asLine (s .args .line)) (asTrain (s .args .train)) (o .before .loop .i))),
-    )
-
-mul-speeds : tie.Need-mul-speeds Inv-loop μ-loop
-mul-speeds c = omega (arith, near (in-loop (c .before .before .before)))
-
-slice-write-speeds : tie.Need-slice-write-speeds Inv-loop μ-loop
-slice-write-speeds c =
-    let o = in-loop (c .before .before .before) in
-    omega (arith, o .before .loop .inv .5 .long, on-line o, start o .pre .1)
-
-add-i : tie.Need-add-i Inv-loop μ-loop
-add-i c = omega (arith, near (in-loop (c .before .before .before)))
+narrow-point-requires : tie.Need-narrow-point-requires Inv-loop μ-loop
+narrow-point-requires c κs = let o = c .before .before .before in omega (arith, on-line o, near o)
 
 covered-at-requires : tie.Need-covered-at-requires Inv-loop μ-loop
 covered-at-requires c κs = search needs
 
+stretch-end-requires : tie.Need-stretch-end-requires Inv-loop μ-loop
+stretch-end-requires c κs = on-line (in-loop c)
+
+write-stretch-requires : tie.Need-write-stretch-requires Inv-loop μ-loop
+write-stretch-requires c κs =
+    let v = c .before .before .before in
+    let o = in-loop v in
+    let s = start o in
+    let b = bands o in
+    let m = last-most _ _ (s .pre .0) _ b in
+    let e = c .before .before .stretch-end .ensures in
+    let low = known-top _ _ (s .pre .0) (known v) in (
+      (bands-bounded _ _ (s .pre .0) _ b, b .falls),
+      (
+        (m .0, rw (m .1) (squared-mono low), le-trans low (last-top-most _ _ (s .pre .0))),
+        (
+          o .before .loop .inv .4,
+          (
+            (few s, s .pre .0 .rule8 .apart),
+            (
+              o .before .loop .inv .2,
+              (omega (arith, e .0), omega (arith, e .1, o .before .loop .inv .5 .long, s .pre .1), omega (arith, e .1, near o)),
+            ),
+          ),
+        ),
+      ),
+    )
+
 loop-less : tie.Need-loop-less Inv-loop μ-loop
-loop-less c = search needs
+loop-less c =
+    let e = c .before .before .before .before .before .stretch-end .ensures in
+    omega (arith, e .0, e .1, on-line (in-loop (c .before .before .before .before .before .before)))
 
 loop-again : tie.Need-loop-again Inv-loop μ-loop
 loop-again c =
-    let step = c .before .before .before in
-    let k = step .before .before .before in
-    let o = in-loop k in
-    let s = start o in
-    let a = s .args in
-    let p = s .pre .0 in
-    let here = cap-here k in
-    let v = forward-at _ _ p (o .before .loop .i) (o .before .loop .inv .3) here (traction-is _ _ p _ (bands o) _) (step .capped-step .ensures) in (
-      omega (arith, o .loop-test .taken),
-      covering-next (a .line) (a .train) p (top o) (begun o .before .before .train-cells .ensures) (o .before .loop .i) (o .before .loop .inv .1)
-          (c .covered-at .ensures),
-      behind-on (next-stop k) (omega arith),
-      before-next _ _ (o .before .loop .i) v,
-      omega (arith, here, cap-most _ _ p (o .before .loop .i), step .capped-step .ensures),
-      fill-up (o .before .loop .inv .5) (omega arith) (add-one _) (omega (arith, on-line o, s .pre .1)) v,
+    let swept = c .before .before .write-stretch .ensures in
+    let e = c .before .before .before .before .before .stretch-end .ensures in
+    let v = c .before .before .before .before .before .before in
+    let o = in-loop v in
+    let p = start o .pre .0 in
+    let (before, filled) = swept .1 _ _ (record {
+      admitted = p;
+      traction = traction-is _ _ p _ (bands o);
+      stops-are = refl;
+      lowest-is = λ j h m.
+          let there = ⊎-elim (λ q. inl (sym q)) (λ q. inr (h, e .2 j q m)) (eq-or-lt-of-le h) in
+          known-lowest _ _ p (known v) j there (omega (arith, e .1));
+      before = o .before .loop .inv .3;
+    }) in (
+      omega (arith, e .1, begun o .before .before .before .before .before .before .before .before .size .ensures .0),
+      nearing-next _ _ p (known v) (omega (arith, e .0)),
+      swept .0 .0,
+      before,
+      swept .0 .1,
+      fill-join (o .before .loop .inv .5) filled (omega arith) (omega (arith, e .0)),
     )
 
 same-length : tie.Need-same-length Inv-loop μ-loop
@@ -180,10 +178,10 @@ same-length c = c .before .loop .inv .5 .long
 returns : tie.Need-returns Inv-loop μ-loop
 returns c =
     let o = c .before in
-    let n = o .before .before .before .before .before .before .before .before .before .before .before .before .before .before in
+    let n = o .before .before .before .before .before .before .before .before .before .before .before .before in
     let s = n .before .before in
-    let e : o .loop .i ≡ s .args .line .points = omega (arith, c .loop-test .left, n .size .ensures .0) in
-    fill-done (rw e at (o .loop .inv .5)) (s .pre .1)
+    let q : o .loop .i ≡ s .args .line .points = omega (arith, c .loop-test .left, n .size .ensures .0, o .loop .inv .0) in
+    fill-done (rw q at (o .loop .inv .5)) (s .pre .1)
 
 pub write-forward-spec : {M : Type 1} → statement M
 write-forward-spec =
@@ -192,19 +190,17 @@ write-forward-spec =
     Inv-loop
     μ-loop
     size-requires
-    train-cells-requires
+    limit-places-requires
+    balise-places-requires
     last-top-requires
     bands-of-requires
-    first-covered-requires
     first-stop-requires
+    swept-from-requires
     loop-holds
-    stop-ahead-requires
-    cap-of-requires
-    capped-step-requires
-    mul-speeds
-    slice-write-speeds
-    add-i
+    narrow-point-requires
     covered-at-requires
+    stretch-end-requires
+    write-stretch-requires
     loop-less
     loop-again
     same-length

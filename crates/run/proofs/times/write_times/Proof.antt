@@ -18,7 +18,7 @@ use Rattle.run.proofs.times.write_times.Tie as tie
 
 abbrev Inv-loop : tie.InvT-loop
 Inv-loop line train speeds times₀ stop-points dwells last i₀ stop₀ time₀ cell₀ kept₀ here₀ times i stop time cell kept here =
-    Arrived (asLine line) (asTrain train) times₀ i stop time (asRoot here) times × (length kept ≡ 512) × IsCellTime (line .step) cell
+    Arrived (asLine line) (asTrain train) times₀ i stop time (asRoot here) times × (length kept ≡ 1024) × IsCellTime (line .step) cell
 
 abbrev μ-loop : tie.MeasureT-loop
 μ-loop line train speeds times₀ stop-points dwells last i₀ stop₀ time₀ cell₀ kept₀ here₀ times i stop time cell kept here =
@@ -93,7 +93,7 @@ loop-holds c =
     let a = first .before .before .before .before .before .before .before in (
       arrived-first _ _ (a .pre .0) (behind-first (a .args .train .stops) (few a) (first .first-stop .ensures)) (c .root .ensures .0)
           (a .pre .1 .1 0 (omega (arith, a .pre .0 .rule3Line .points-least))) (c .root .ensures .1),
-      length-replicate {A = ℕ} 512 0,
+      length-replicate {A = ℕ} 1024 0,
       λ h. absurd (omega arith),
     )
 
