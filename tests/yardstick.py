@@ -13,14 +13,16 @@ import calculator  # noqa: E402
 from calculator import HEADER_LINE, PROGRAM_BOUND, Hold, Line, Refused, Sheet, Train, number_of  # noqa: E402, F401
 from calculator import open_call, padded, sample_line  # noqa: E402, F401
 
-VERSION = 4                 # how many requests of document 02 are landed, from the first on
+VERSION = 5                 # how many requests of document 02 are landed, from the first on
 POINT_SIZE = 25             # bytes of a point in the diagram
 
 accepted_line = partial(calculator.accepted_line, version=VERSION)
 add_call = partial(calculator.add_call, version=VERSION)
 broken_rules = partial(calculator.broken_rules, version=VERSION)
+caps = partial(calculator.caps, version=VERSION)
 check_call = partial(calculator.check_call, version=VERSION)
 diagram_call = partial(calculator.diagram_call, version=VERSION)
+forward_row = partial(calculator.forward_row, version=VERSION)
 headway_call = partial(calculator.headway_call, version=VERSION)
 hold_call = partial(calculator.hold_call, version=VERSION)
 parse = partial(calculator.parse, version=VERSION)

@@ -3,7 +3,6 @@
 mod numbers;
 mod places;
 
-use numbers::least;
 use numbers::less;
 use numbers::lesser;
 pub use places::Places;
@@ -16,6 +15,7 @@ use places::place_ahead;
 use places::point_at;
 use places::rear_at;
 use values::place_of;
+use widths::least;
 use widths::wide;
 ghost use mathlib.Core.Path.{_≡_};
 ghost use Rattle.caps.specs.Caps.{lowestLimit, covering, coveredAt};

@@ -1,9 +1,10 @@
 // Places along the line, in m from point 0, and how many of them the head or the rear of a train has reached.
-use crate::numbers::least;
 use values::Line;
 use values::place_of;
+use widths::least;
+use widths::narrow;
 ghost use mathlib.Core.Path.{_≡_};
-ghost use Prim.Native.Nat.{_-_, min};
+ghost use Prim.Native.Nat.{_-_};
 ghost use Rattle.rules.specs.Count.{ceilDiv};
 ghost use Rattle.caps.specs.Caps.{inUse, placesOf, limitPlaces, balisePlaces, past, lastPlace, placeAhead, rearAt, headFor};
 
@@ -18,13 +19,6 @@ fn less(a: u64, b: u64) -> u64
     ensures { λ r. ⌜ r ≡ a - b ⌝ }
 {
     if a < b { 0 } else { a - b }
-}
-
-// x, or the greatest number of the narrower type.
-fn narrow(x: u64) -> u32
-    ensures { λ r. ⌜ r ≡ min x 4294967295 ⌝ }
-{
-    if x < 4294967295 { x as u32 } else { 4294967295 }
 }
 
 // The first `count` places are in use, at most 64; the others are 0.

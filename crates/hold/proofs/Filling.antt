@@ -16,10 +16,10 @@ use Rattle.rules.proofs.Count.{rises-far}
 use Rattle.rules.proofs.Fill.{Filled, fill-none, fill-up, fill-padded}
 use Rattle.rules.proofs.Hold.{approach-is, approach-slow, approach-agree, clears-within}
 use Rattle.rules.proofs.Run.{run-is}
+use Rattle.rules.proofs.Step.{loss-most}
 use Rattle.rules.proofs.Time.{departure-is, departs-before, arrival-most, entry-times}
 use Rattle.stops.specs.declared.Stop.{Stop}
 use Rattle.stops.specs.Stops.{Behind, NextStop}
-use Rattle.run.proofs.Traction.{loss-most}
 
 -- the record after the first j blocks
 pub record Holds (l : Line) (t : Train) (h : Hold) (point : ℕ) (stop : Stop) (j : ℕ) : Type 0 where

@@ -1,7 +1,8 @@
 // The 16-bit numbers in bytes.
+use widths::least;
 use widths::size;
 ghost use mathlib.Core.Path.{_≡_};
-ghost use Prim.Native.Nat.{_<_, min};
+ghost use Prim.Native.Nat.{_<_};
 ghost use Rattle.rules.specs.Count.{padded};
 ghost use Rattle.rules.specs.File.{word, words};
 
@@ -9,12 +10,6 @@ fn wide(byte: u8) -> u16
     ensures { λ r. ⌜ (r ≡ byte) × (r < 256) ⌝ }
 {
     byte as u16
-}
-
-fn lesser(a: usize, b: usize) -> usize
-    ensures { λ r. ⌜ r ≡ min a b ⌝ }
-{
-    if a < b { a } else { b }
 }
 
 // The unsigned 16-bit number at a place, low byte first.
@@ -36,7 +31,7 @@ pub(crate) fn words_at(bytes: &[u8], at: usize, n: u16) -> [u16; 64]
     requires { ⌜ at < 1000000 ⌝ }
     ensures { λ r. ⌜ r ≡ padded 64 (words (now (bytes .entry)) at n) ⌝ }
 {
-    let count = lesser(size(n), 64);
+    let count = least(size(n), 64);
     let mut numbers = [0u16; 64];
     let mut i = 0;
     while i < count {

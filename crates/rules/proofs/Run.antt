@@ -9,24 +9,29 @@ use native.Mathlib.Nat.{le-trans, le-antisymm}
 use native.Mathlib.Omega.{arith}
 use lib.ListN.{length}
 use lib.Seq.{ext-getD}
-use Rattle.rules.specs.Count.{entry}
+use Rattle.rules.specs.Count.{entry, row}
 use Rattle.rules.specs.Line.{Line, Train}
-use Rattle.rules.specs.Run.{brakingLoss, listed, cap, tractionStep, Permitted, IsRun, forwardSweep, backwardBefore, backwardSweep, forward, runAt, runRow}
+use Rattle.rules.specs.Run.{
+  brakingLoss,
+  listed,
+  cap,
+  tractionStep,
+  Permitted,
+  IsRun,
+  Unbraked,
+  IsForward,
+  forwardSweep,
+  backwardBefore,
+  backwardSweep,
+  forward,
+  runAt,
+  runRow,
+}
 use Rattle.rules.specs.Admitted.{Admitted}
 use Rattle.rules.proofs.Count.{length-row, entry-row}
 use Rattle.rules.proofs.Step.{loss-least, step-mono, step-least, step-keeps}
 use Rattle.rules.proofs.Cap.{cap-top, cap-least, one-is-no-stop}
-use Rattle.rules.proofs.Sweep.{forward-le, backward-next, backward-le}
-
--- f keeps to the caps and to the traction steps up to point m
-pub record Keeps (l : Line) (t : Train) (m : ℕ) (f : ℕ → ℕ) : Type 0 where
-  pub capped : (i : ℕ) → i ≤ m → f i ≤ cap l t i
-  pub drawn : (i : ℕ) → suc i ≤ m → f (suc i) ≤ tractionStep l t (f i)
-
--- g is the greatest that does
-pub record IsForward (l : Line) (t : Train) (m : ℕ) (g : ℕ → ℕ) : Type 0 where
-  pub keeps : Keeps l t m g
-  pub greatest : (f : ℕ → ℕ) → Keeps l t m f → (i : ℕ) → i ≤ m → f i ≤ g i
+use Rattle.rules.proofs.Sweep.{backward-next, backward-le}
 
 module _ (l : Line) (t : Train) where
   pub length-run : length (runRow l t) ≡ l .points
@@ -39,25 +44,36 @@ module _ (l : Line) (t : Train) where
 
   -- ---- the forward sweep
 
-  forward-above : (m : ℕ) (f : ℕ → ℕ) → Keeps l t m f → (i : ℕ) → i ≤ m → f i ≤ forward l t i
+  pub forward-cap : (i : ℕ) → forward l t i ≤ cap l t i
   unfolding forward forwardSweep
-  forward-above m f k zero h = k .capped 0 h
-  forward-above m f k (suc i) h = omega (arith, k .capped (suc i) h, k .drawn i h, step-mono l t (forward-above m f k i (omega arith)))
+  forward-cap zero = omega arith
+  forward-cap (suc i) = omega arith
 
-  -- braking left out, the forward sweep is the greatest row
-  pub forward-is : (m : ℕ) → IsForward l t m (forward l t)
+  forward-drawn : (i : ℕ) → forward l t (suc i) ≤ tractionStep l t (forward l t i)
   unfolding forward forwardSweep
-  forward-is m =
+  forward-drawn i = omega arith
+
+  forward-above : (n : ℕ) (speeds : List ℕ) → Unbraked l t n speeds → (i : ℕ) → i < n → entry speeds i ≤ forward l t i
+  unfolding forward forwardSweep
+  forward-above n speeds u zero h = u .capped 0 h
+  forward-above n speeds u (suc i) h = omega (arith, u .capped (suc i) h, u .drawn i h, step-mono l t (forward-above n speeds u i (omega arith)))
+
+  -- braking left out, the forward sweep is the greatest row, up to any point
+  pub forward-is : (n : ℕ) → IsForward l t n (row (forward l t) n)
+  forward-is n =
       record {
-        keeps = record { capped = λ i h. forward-le (cap l t) (tractionStep l t) i; drawn = λ i h. omega arith };
-        greatest = forward-above m;
+        unbraked = record {
+          many = length-row (forward l t) n;
+          capped = λ i h. rw (entry-row (forward l t) n i h) (forward-cap i);
+          drawn = λ i h. rw (entry-row (forward l t) n (suc i) h, entry-row (forward l t) n i (omega arith)) (forward-drawn i);
+        };
+        greatest = λ other u i h. rw (entry-row (forward l t) n i h) (forward-above n other u i h);
       }
 
   -- ---- no permitted row is above the run
 
   row-forward : (speeds : List ℕ) → Permitted l t speeds → (i : ℕ) → i < l .points → entry speeds i ≤ forward l t i
-  row-forward speeds p i h =
-      forward-is i .greatest (entry speeds) (record { capped = λ j g. p .capped j (omega arith); drawn = λ j g. p .drawn j (omega arith) }) i (omega arith)
+  row-forward speeds p = forward-above (l .points) speeds (record { many = p .whole; capped = p .capped; drawn = p .drawn })
 
   row-backward : (speeds : List ℕ) → Permitted l t speeds → (k i : ℕ) → i + k < l .points → entry speeds i ≤ backwardBefore (forward l t) (brakingLoss l t) k i
   unfolding backwardBefore
@@ -80,7 +96,7 @@ module _ (l : Line) (t : Train) where
   run-forward i = backward-le (forward l t) (brakingLoss l t) (l .points) i
 
   run-cap : (i : ℕ) → runAt l t i ≤ cap l t i
-  run-cap i = le-trans (run-forward i) (forward-is i .keeps .capped i (omega arith))
+  run-cap i = le-trans (run-forward i) (forward-cap i)
 
   module _ (a : Admitted l t) where
     run-drawn : (i : ℕ) → suc i < l .points → runAt l t (suc i) ≤ tractionStep l t (runAt l t i)
@@ -89,7 +105,7 @@ module _ (l : Line) (t : Train) where
         go : Dec (forward l t i ≤ runAt l t (suc i) + brakingLoss l t) → runAt l t (suc i) ≤ tractionStep l t (runAt l t i)
         go (yes g) =
             let f : runAt l t i ≡ forward l t i = omega (arith, run-before i h) in
-            rw f (le-trans (run-forward (suc i)) (forward-is (suc i) .keeps .drawn i (omega arith)))
+            rw f (le-trans (run-forward (suc i)) (forward-drawn i))
         go (no g) =
             le-trans (step-keeps l t a (runAt l t (suc i)) (le-trans (run-cap (suc i)) (cap-top l t (suc i))))
             (step-mono l t (omega (arith, run-before i h)))

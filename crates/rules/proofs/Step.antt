@@ -3,7 +3,7 @@ use Prim.Native.Nat.{ℕ, zero, suc, _-_, _*_, _≤_, _<_}
 use mathlib.Core.List.{List, [], _∷_}
 use mathlib.Core.Path.{_≡_, refl, ap, _∙_}
 use native.Mathlib.Decide.{decLe}
-use native.Mathlib.Nat.{mul-le-mul, mul-le-mul-left, le-mul-of-pos-right, suc-inj}
+use native.Mathlib.Nat.{mul-le-mul, mul-le-mul-left, mul-le-mul-right, le-mul-of-pos-right, suc-inj}
 use native.Mathlib.Omega.{arith}
 use lib.ListN.{length}
 use Rattle.rules.specs.Count.{entry}
@@ -30,6 +30,10 @@ change-least : (m : ℕ) {rate L : ℕ} → m ≤ rate → 1 ≤ L → m * 2592 
 unfolding change
 change-least m {rate} {L} h k = let g : rate * 2592 ≤ rate * 2592 * L = le-mul-of-pos-right (rate * 2592) k in omega arith
 
+pub change-most : (m : ℕ) {rate L : ℕ} → rate ≤ m → L ≤ 100 → change rate L ≤ m * 2592 * 100
+unfolding change
+change-most m h k = mul-le-mul (mul-le-mul-right 2592 h) k
+
 -- ---- the braking loss
 
 rate-least : (class : ℕ) → class ≤ 2 → 31 ≤ practiceRate class
@@ -38,7 +42,7 @@ rate-least (suc zero) h = omega arith
 rate-least (suc (suc zero)) h = omega arith
 rate-least (suc (suc (suc n))) h = absurd (omega arith)
 
-pub practice-most : (class : ℕ) → practiceRate class ≤ 60
+practice-most : (class : ℕ) → practiceRate class ≤ 60
 practice-most zero = omega arith
 practice-most (suc zero) = omega arith
 practice-most (suc (suc zero)) = omega arith
@@ -51,6 +55,10 @@ loss-is l t = refl
 pub loss-least : (l : Line) (t : Train) → Admitted l t → 2592 ≤ brakingLoss l t
 unfolding brakingLoss
 loss-least l t a = omega (arith, change-least 31 (rate-least (t .class) (a .rule3Train .class-most)) (a .rule3Line .step-least))
+
+pub loss-most : (l : Line) (t : Train) → Admitted l t → brakingLoss l t ≤ 15552000
+unfolding brakingLoss
+loss-most l t a = change-most 60 (practice-most (t .class)) (a .rule3Line .step-most)
 
 -- ---- the bands
 

@@ -1,15 +1,9 @@
--- The two sweeps, point by point. Assumes nothing.
+-- The backward sweep, point by point. Assumes nothing.
 use Prim.Native.Nat.{ℕ, zero, suc, _+_, _-_, _≤_, _<_, min}
 use mathlib.Core.Path.{_≡_}
 use native.Mathlib.Nat.{le-refl}
 use native.Mathlib.Omega.{arith}
-use Rattle.rules.specs.Run.{forwardSweep, backwardBefore, backwardSweep}
-
-module _ (caps step : ℕ → ℕ) where
-  pub forward-le : (i : ℕ) → forwardSweep caps step i ≤ caps i
-  unfolding forwardSweep
-  forward-le zero = omega arith
-  forward-le (suc i) = omega arith
+use Rattle.rules.specs.Run.{backwardBefore, backwardSweep}
 
 module _ (tops : ℕ → ℕ) (loss n : ℕ) where
   pub backward-last : (i : ℕ) → n ≡ suc i → backwardSweep tops loss n i ≡ tops i

@@ -1,4 +1,5 @@
--- Document 01, "The run", with the grown length of document 02, "Req 04": braking loss, cap, traction step, permitted rows and the run.
+-- Document 01, "The run", with the grown length of document 02, "Req 04", and the rows of "Req 05": braking loss, cap, traction step, permitted
+-- rows, the run, and the row that leaves braking out.
 -- Squared speeds are squares of hundredths of a km/h.
 use Prim.Native.Nat.{ℕ, zero, suc, _+_, _-_, _*_, _≤_, _<_, min, max}
 use mathlib.Core.Bool.{Bool, true, false, cond}
@@ -125,6 +126,17 @@ pub record Permitted (l : Line) (t : Train) (speeds : List ℕ) : Type 0 where
 pub record IsRun (l : Line) (t : Train) (speeds : List ℕ) : Type 0 where
   pub permitted : Permitted l t speeds
   pub greatest : (other : List ℕ) → Permitted l t other → (i : ℕ) → i < l .points → entry other i ≤ entry speeds i
+
+-- a row of n squared speeds, for the points from 0 on, that keeps to their caps and traction steps, braking left out
+pub record Unbraked (l : Line) (t : Train) (n : ℕ) (speeds : List ℕ) : Type 0 where
+  pub many : length speeds ≡ n
+  pub capped : (i : ℕ) → i < n → entry speeds i ≤ cap l t i
+  pub drawn : (i : ℕ) → suc i < n → entry speeds (suc i) ≤ tractionStep l t (entry speeds i)
+
+-- the greatest of these rows: no other is above it at any point
+pub record IsForward (l : Line) (t : Train) (n : ℕ) (speeds : List ℕ) : Type 0 where
+  pub unbraked : Unbraked l t n speeds
+  pub greatest : (other : List ℕ) → Unbraked l t n other → (i : ℕ) → i < n → entry other i ≤ entry speeds i
 
 -- The run, computed by two sweeps. Forward: each entry is at most its cap and the step from the entry before.
 unfoldable pub forwardSweep : (ℕ → ℕ) → (ℕ → ℕ) → ℕ → ℕ

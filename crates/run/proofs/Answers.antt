@@ -1,8 +1,10 @@
 -- What the run calls answer and leave in the buffers, refused and accepted. Assumes nothing.
-use Prim.Native.Nat.{ℕ, _≤_, _<_}
-use mathlib.Core.Bool.{cond}
-use mathlib.Core.List.{List, [], _∷_}
+use Prim.Native.Nat.{ℕ, _≤_, _<_, min}
+use mathlib.Core.Bool.{Bool, false, cond}
+use mathlib.Core.List.{List, [], _∷_, _++_}
 use mathlib.Core.Path.{_≡_, refl, sym, _∙_, subst}
+use native.Mathlib.Decide.{decLt}
+use native.Mathlib.Omega.{arith}
 use lib.ListN.{length, take}
 use borrow.Author.Tests.{le-leb, lt-leb}
 use Rattle.rules.specs.Count.{_and_}
@@ -12,51 +14,48 @@ use Rattle.rules.specs.Run.{runRow}
 use Rattle.rules.specs.Time.{arrivals, runTimes, FastestRun}
 use Rattle.rules.specs.Refusal.{rule, refusal, rulesOn, buffersLong}
 use Rattle.rules.specs.Calls.{written, trainRefusal, runRefusal, speedsAfter, timesAfter}
-use Rattle.rules.specs.Admitted.{Parallel, Admitted}
-use Rattle.rules.proofs.Count.{length-row}
-use Rattle.rules.proofs.Refusal.{refusal-none, refusal-cons, append-refused, append-kept}
+use Rattle.rules.specs.Admitted.{Admitted}
+use Rattle.rules.proofs.Refusal.{refusal-none, refusal-cons, append-refused, append-kept, append-accepted}
 use Rattle.rules.proofs.Accepted.{on-positive, on-kept, run-refused, run-by-buffers, train-admitted}
 use Rattle.rules.proofs.Calls.{lent-written, lent-kept, run-leaves}
 use Rattle.rules.proofs.Time.{fastest}
-use Rattle.values.specs.declared.decoded.Line as decodedLine
-use Rattle.values.specs.declared.decoded.Train as decodedTrain
-use Rattle.values.specs.Values.{asLine, asTrain}
 use Rattle.run.specs.Calls.{runRefusalOn, speedsOn, timesOn}
 use Rattle.rules.proofs.Written.{row-taken}
 
--- the arrays of a decoded line and train are parallel
-pub decoded-parallel : (l : decodedLine.Line) (t : decodedTrain.Train) → Parallel (asLine l) (asTrain t)
-decoded-parallel l t =
-    record {
-      limits = length-row _ (l .«limit_count») ∙ sym (length-row _ (l .«limit_count»));
-      blocks = length-row _ (l .«block_count») ∙ sym (length-row _ (l .«block_count»));
-      balises = length-row _ (l .«balise_count») ∙ sym (length-row _ (l .«balise_count»));
-      bands = length-row _ (t .«band_count») ∙ sym (length-row _ (t .«band_count»));
-      stops = length-row _ (t .«stop_count») ∙ sym (length-row _ (t .«stop_count»));
-    }
-
 module _ (l : Line) (t : Train) where
-  pub refused-on : {r : ℕ} (ns nt : ℕ) → r ≡ refusal (rulesOn l t) → (r ≡ 0 → ⊥) → r ≡ runRefusalOn l t ns nt
-  unfolding runRefusalOn
-  refused-on ns nt e h = e ∙ sym (append-refused (rulesOn l t) (rule 11 (buffersLong l ns nt) ∷ []) (on-positive l t) (λ z. h (e ∙ z)))
+  -- 11 comes behind the file's rules from 3 on
+  pub rules-first : {r : ℕ} (kept : Bool) → r ≡ refusal (rulesOn l t) → (r ≡ 0 → ⊥) → r ≡ refusal (rulesOn l t ++ (rule 11 kept ∷ []))
+  rules-first kept e h = e ∙ sym (append-refused (rulesOn l t) (rule 11 kept ∷ []) (on-positive l t) (λ z. h (e ∙ z)))
 
-  pub by-buffers : (ns nt : ℕ) → refusal (rulesOn l t) ≡ 0 → runRefusalOn l t ns nt ≡ cond (buffersLong l ns nt) 0 11
-  unfolding runRefusalOn
-  by-buffers ns nt z =
-      append-kept (rulesOn l t) (rule 11 (buffersLong l ns nt) ∷ []) (on-positive l t) z ∙ refusal-cons 11 (buffersLong l ns nt) [] ∙ rw refusal-none
+  pub room-then : (kept : Bool) → refusal (rulesOn l t) ≡ 0 → refusal (rulesOn l t ++ (rule 11 kept ∷ [])) ≡ cond kept 0 11
+  room-then kept z = append-kept (rulesOn l t) (rule 11 kept ∷ []) (on-positive l t) z ∙ refusal-cons 11 kept [] ∙ rw refusal-none
 
-  module _ (ns nt : ℕ) (z : refusal (rulesOn l t) ≡ 0) where
-    pub short-speeds : ns < l .points → 11 ≡ runRefusalOn l t ns nt
+  pub short-refused : {r : ℕ} → r ≡ refusal (rulesOn l t ++ (rule 11 false ∷ [])) → r ≡ 0 → ⊥
+  short-refused {r} e z =
+      let kept = append-accepted (rulesOn l t) (rule 11 false ∷ []) (on-positive l t) (sym e ∙ z) .0 in
+      let eleven : r ≡ 11 = e ∙ room-then false kept in
+      omega arith
+
+  module _ (ns nt : ℕ) where
+    pub refused-on : {r : ℕ} → r ≡ refusal (rulesOn l t) → (r ≡ 0 → ⊥) → r ≡ runRefusalOn l t ns nt
+    unfolding runRefusalOn
+    refused-on = rules-first (buffersLong l ns nt)
+
+    pub by-buffers : refusal (rulesOn l t) ≡ 0 → runRefusalOn l t ns nt ≡ cond (buffersLong l ns nt) 0 11
+    unfolding runRefusalOn
+    by-buffers = room-then (buffersLong l ns nt)
+
+    pub short-buffers : {r : ℕ} → r ≡ refusal (rulesOn l t ++ (rule 11 false ∷ [])) → min ns nt < l .points → r ≡ runRefusalOn l t ns nt
+    unfolding runRefusalOn buffersLong _and_
+    short-buffers {r} e h = go (decLt ns (l .points))
+      where
+        go : Dec (ns < l .points) → r ≡ runRefusalOn l t ns nt
+        go (yes g) = e ∙ rw (lt-leb (l .points) ns g)
+        go (no g) = e ∙ rw (le-leb (l .points) ns (omega arith), lt-leb (l .points) nt (omega arith))
+
+    pub long-enough : refusal (rulesOn l t) ≡ 0 → l .points ≤ ns → l .points ≤ nt → 0 ≡ runRefusalOn l t ns nt
     unfolding buffersLong _and_
-    short-speeds h = sym (by-buffers ns nt z ∙ rw (lt-leb (l .points) ns h))
-
-    pub short-times : l .points ≤ ns → nt < l .points → 11 ≡ runRefusalOn l t ns nt
-    unfolding buffersLong _and_
-    short-times g h = sym (by-buffers ns nt z ∙ rw (le-leb (l .points) ns g, lt-leb (l .points) nt h))
-
-    pub long-enough : l .points ≤ ns → l .points ≤ nt → 0 ≡ runRefusalOn l t ns nt
-    unfolding buffersLong _and_
-    long-enough g h = sym (by-buffers ns nt z ∙ rw (le-leb (l .points) ns g, le-leb (l .points) nt h))
+    long-enough z g h = sym (by-buffers z ∙ rw (le-leb (l .points) ns g, le-leb (l .points) nt h))
 
   module _ (speeds times : List ℕ) where
     pub buffers-kept : {r : ℕ} → r ≡ runRefusalOn l t (length speeds) (length times) → (r ≡ 0 → ⊥) → (speeds ≡ speedsOn l t speeds times) ×

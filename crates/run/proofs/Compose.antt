@@ -1,22 +1,21 @@
--- A buffer that is swept forward and then backward holds the run. Assumes nothing.
+-- The run by its two sweeps: a buffer that begins with the forward row and is swept backward begins with the run. Assumes nothing.
 use Prim.Native.Nat.{ℕ, zero, suc, _+_, _-_, _≤_, _<_}
-use mathlib.Core.List.{List, _++_}
-use mathlib.Core.Path.{_≡_, sym, ap, ap₂, _∙_}
-use native.Mathlib.Nat.{le-refl, le-trans}
+use mathlib.Core.List.{List}
+use mathlib.Core.Path.{_≡_, sym, ap, _∙_}
+use native.Mathlib.Nat.{le-trans}
 use native.Mathlib.Omega.{arith}
-use lib.ListN.{length, drop, length-append, length-drop, List·getD-append}
-use lib.Seq.{drop-at}
+use lib.ListN.{length, List·getD-append}
 use Rattle.rules.specs.Count.{entry, row}
 use Rattle.rules.specs.Line.{Line, Train}
 use Rattle.rules.specs.Run.{brakingLoss, backwardBefore, backwardSweep, forward, runAt, runRow}
 use Rattle.rules.specs.Admitted.{Admitted}
+use Rattle.rules.specs.Calls.{written}
 use Rattle.rules.proofs.Count.{length-row}
 use Rattle.rules.proofs.Loops.{row-agree}
 use Rattle.rules.proofs.Fill.{entry-in}
 use Rattle.rules.proofs.Cap.{cap-most}
-use Rattle.rules.proofs.Run.{forward-is, length-run}
-use Rattle.rules.specs.Calls.{written}
-use Rattle.rules.proofs.Written.{written-row}
+use Rattle.rules.proofs.Run.{forward-cap, length-run}
+use Rattle.rules.proofs.Written.{written-front, written-long, written-over, written-row}
 
 -- the backward sweep depends on its tops below n alone
 module _ (tops others : ℕ → ℕ) (loss n : ℕ) (same : (k : ℕ) → k < n → tops k ≡ others k) where
@@ -29,38 +28,32 @@ module _ (tops others : ℕ → ℕ) (loss n : ℕ) (same : (k : ℕ) → k < n 
   unfolding backwardSweep
   backward-same i h = before-same (n - suc i) i (omega arith)
 
-module _ (l : Line) (t : Train) (s₀ s₁ : List ℕ) (swept : s₁ ≡ row (forward l t) (l .points) ++ drop (l .points) s₀) where
-  forward-entry : (k : ℕ) → k < l .points → entry s₁ k ≡ forward l t k
-  forward-entry k h = rw swept (entry-in (forward l t) (l .points) (drop (l .points) s₀) k h)
-
-  pub forward-most : Admitted l t → (k : ℕ) → k < l .points → entry s₁ k ≤ 900000000
-  forward-most a k h = rw (forward-entry k h) (le-trans (forward-is l t k .keeps .capped k (le-refl k)) (cap-most l t a k))
+-- s₀ begins with the forward row
+module _ (l : Line) (t : Train) (s₀ : List ℕ) (swept : (k : ℕ) → k < l .points → entry s₀ k ≡ forward l t k) where
+  pub forward-most : Admitted l t → (k : ℕ) → k < l .points → entry s₀ k ≤ 900000000
+  forward-most a k h = rw (swept k h) (le-trans (forward-cap l t k) (cap-most l t a k))
 
   pub sweeps-run :
-      (s₂ : List ℕ) →
-      s₂ ≡ row (backwardSweep (entry s₁) (brakingLoss l t) (l .points)) (l .points) ++ drop (l .points) s₁ →
-      s₂ ≡ runRow l t ++ drop (l .points) s₀
+      {s : List ℕ} → s ≡ written s₀ 0 (row (backwardSweep (entry s₀) (brakingLoss l t) (l .points)) (l .points)) → s ≡ written s₀ 0 (runRow l t)
   unfolding runRow runAt
-  sweeps-run s₂ e = e ∙ ap₂ _++_ rows rest
-    where
-      rows : row (backwardSweep (entry s₁) (brakingLoss l t) (l .points)) (l .points) ≡ row (runAt l t) (l .points)
-      rows = row-agree _ _ (l .points) (λ k h. backward-same (entry s₁) (forward l t) (brakingLoss l t) (l .points) forward-entry k h)
+  sweeps-run e =
+      e ∙ ap (written s₀ 0) (row-agree _ _ (l .points) (λ k h. backward-same (entry s₀) (forward l t) (brakingLoss l t) (l .points) swept k h))
 
-      rest : drop (l .points) s₁ ≡ drop (l .points) s₀
-      rest = rw swept (drop-at (row (forward l t) (l .points)) (drop (l .points) s₀) (l .points) (length-row (forward l t) (l .points)))
+-- s₁ is s₀ after the forward sweep
+module _ (l : Line) (t : Train) (s₀ : List ℕ) {s₁ : List ℕ} (e : s₁ ≡ written s₀ 0 (row (forward l t) (l .points))) where
+  pub forward-entries : (k : ℕ) → k < l .points → entry s₁ k ≡ forward l t k
+  forward-entries k h = rw (e, written-row (forward l t) (l .points) s₀) (entry-in (forward l t) (l .points) _ k h)
 
--- what is left in a buffer that holds a row in front
-pub row-long : (f : ℕ → ℕ) (n : ℕ) (s₀ : List ℕ) {s : List ℕ} → s ≡ row f n ++ drop n s₀ → n ≤ length s₀ → length s ≡ length s₀
-row-long f n s₀ e h = ap length e ∙ simp (length-append, length-row, length-drop) (omega arith)
+  pub forward-long : l .points ≤ length s₀ → length s₁ ≡ length s₀
+  forward-long h = written-long s₀ _ e (rw length-row h)
 
-module _ (l : Line) (t : Train) (s₀ : List ℕ) {s : List ℕ} (e : s ≡ runRow l t ++ drop (l .points) s₀) where
+  pub run-over : {s : List ℕ} → s ≡ written s₁ 0 (runRow l t) → s ≡ written s₀ 0 (runRow l t)
+  run-over q = q ∙ rw e (written-over s₀ _ (runRow l t) (length-row _ (l .points) ∙ sym (length-run l t)))
+
+-- a buffer that begins with the run
+module _ (l : Line) (t : Train) (s₀ : List ℕ) {s : List ℕ} (e : s ≡ written s₀ 0 (runRow l t)) where
   pub run-long : l .points ≤ length s₀ → length s ≡ length s₀
-  unfolding runRow
-  run-long h = row-long (runAt l t) (l .points) s₀ e h
+  run-long h = written-long s₀ (runRow l t) e (rw (length-run l t) h)
 
   pub run-entries : (k : ℕ) → k < l .points → entry s k ≡ entry (runRow l t) k
-  run-entries k h = rw e (List·getD-append (runRow l t) (drop (l .points) s₀) 0 k (rw (length-run l t) h))
-
-  pub run-written : s ≡ written s₀ 0 (runRow l t)
-  unfolding runRow
-  run-written = e ∙ sym (written-row (runAt l t) (l .points) s₀)
+  run-entries k h = rw (e, written-front s₀ (runRow l t)) (List·getD-append (runRow l t) _ 0 k (rw (length-run l t) h))

@@ -1,4 +1,2 @@
-pub mod Traction
-pub mod Forward
 pub mod Calls
 pub mod Times

@@ -1,42 +1,54 @@
 // The run of a train: its squared speeds and its arrivals.
-mod bands;
-mod forward;
+mod backward;
 mod kept;
-mod numbers;
-mod sweep;
 mod times;
 
-use forward::write_forward;
-use numbers::narrow;
-use sweep::write_backward;
+use backward::write_backward;
 use times::write_times;
 use values::Line;
 use values::Train;
+use widths::least;
+use widths::narrow;
 use widths::size;
+ghost use mathlib.Core.Bool.{false};
+ghost use mathlib.Core.List.{[], _∷_, _++_};
 ghost use mathlib.Core.Path.{_≡_};
-ghost use Prim.Native.Nat.{_≤_};
+ghost use Prim.Native.Nat.{ℕ, _≤_, _<_};
 ghost use lib.ListN.{length, take};
 ghost use Rattle.rules.specs.Admitted.{Admitted};
 ghost use Rattle.rules.specs.Calls.{written, runRefusal, speedsAfter, timesAfter};
+ghost use Rattle.rules.specs.Count.{entry};
 ghost use Rattle.rules.specs.File.{pointCount};
 ghost use Rattle.rules.specs.Line.{lineOf, trainOf};
-ghost use Rattle.rules.specs.Run.{runRow};
+ghost use Rattle.rules.specs.Refusal.{rule, refusal, rulesOn};
+ghost use Rattle.rules.specs.Run.{forward, runRow};
 ghost use Rattle.rules.specs.Time.{runTimes, FastestRun};
 ghost use Rattle.values.specs.Values.{asLine, asTrain};
 ghost use Rattle.run.specs.Calls.{runRefusalOn, speedsOn, timesOn};
 
-// Writes the run's squared speeds and arrivals.
+// Makes the run of the forward row that `speeds` begins with, and writes its arrivals.
 fn write_run(line: Line, train: Train, speeds: &mut [u32], times: &mut [u64])
     requires { ⌜ Admitted (asLine line) (asTrain train) ⌝ }
     requires { ⌜ (line .points ≤ length (now speeds)) × (line .points ≤ length (now times)) ⌝ }
+    requires { ⌜ ((k : ℕ) → k < line .points → entry (now speeds) k ≡ forward (asLine line) (asTrain train) k) ⌝ }
     ensures { λ _. ⌜
         (now (speeds .exit) ≡ written (now (speeds .entry)) 0 (runRow (asLine line) (asTrain train)))
         × (now (times .exit) ≡ written (now (times .entry)) 0 (runTimes (asLine line) (asTrain train))) ⌝ }
 {
-    write_forward(line, train, speeds);
     let loss = narrow(values::braking_loss(line, train));
     write_backward(size(line.points), loss, speeds);
     write_times(line, train, speeds, times);
+}
+
+// The number where a buffer is too short: the file's rules from 3 on are checked before 11.
+fn short_refusal(line: Line, train: Train) -> u64
+    ensures { λ r. ⌜ r ≡ refusal (rulesOn (asLine line) (asTrain train) ++ (rule 11 false ∷ [])) ⌝ }
+{
+    let number = judging::refusal_on(line, train);
+    if number != 0 {
+        return number;
+    }
+    11
 }
 
 // The run of a decoded train on a decoded line: the file's rules from 3 on and 11, whatever the two hold. A refusal leaves both buffers as they came.
@@ -47,16 +59,13 @@ pub fn run_train(line: Line, train: Train, speeds: &mut [u32], times: &mut [u64]
     ensures fastest { λ r. ⌜ (r ≡ 0 →
         FastestRun (asLine line) (asTrain train) (take (line .points) (now (speeds .exit))) (take (line .points) (now (times .exit)))) ⌝ }
 {
-    let number = judging::refusal_on(line, train);
+    if least(speeds.len(), times.len()) < size(line.points) {
+        return short_refusal(line, train);
+    }
+    // The point behind the last: the sweep takes in the whole line.
+    let number = forward::sweep_to(line, train, line.points, speeds);
     if number != 0 {
         return number;
-    }
-    let points = size(line.points);
-    if speeds.len() < points {
-        return 11;
-    }
-    if times.len() < points {
-        return 11;
     }
     write_run(line, train, speeds, times);
     0

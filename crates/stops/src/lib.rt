@@ -1,9 +1,9 @@
 // The stops of a train under way, gone through once in the order of their points. Of the arrays the first `count` entries are in use, but
 // no more than 64.
+use widths::least;
 use widths::size;
 use widths::wide64;
 ghost use mathlib.Core.Path.{_≡_};
-ghost use Prim.Native.Nat.{min};
 ghost use Rattle.stops.specs.Stops.{used, stopFrom, stopNumber, stopAhead, dwellHere};
 
 // The number of a stop and its point. Where there is no such stop, the point is beyond every point of a line.
@@ -12,17 +12,11 @@ pub struct Stop {
     pub point: usize,
 }
 
-fn lesser(a: usize, b: usize) -> usize
-    ensures { λ r. ⌜ r ≡ min a b ⌝ }
-{
-    if a < b { a } else { b }
-}
-
 // The number of the first stop from `next` on that is at point i or later, or the count of stops where there is none.
 fn stop_from(stops: &[u16; 64], count: usize, next: usize, i: usize) -> usize
     ensures { λ r. ⌜ r ≡ stopFrom (used (now (stops .entry)) count) next i ⌝ }
 {
-    let end = lesser(count, 64);
+    let end = least(count, 64);
     let mut s = next;
     while s < end {
         if i <= size(stops[s]) {
@@ -36,7 +30,7 @@ fn stop_from(stops: &[u16; 64], count: usize, next: usize, i: usize) -> usize
 fn stop_number(stops: &[u16; 64], count: usize, number: usize) -> Stop
     ensures { λ r. ⌜ r ≡ stopNumber (used (now (stops .entry)) count) number ⌝ }
 {
-    if number < lesser(count, 64) {
+    if number < least(count, 64) {
         return Stop {
             number,
             point: size(stops[number]),

@@ -6,6 +6,7 @@ use reading::record_size;
 use train::block_of;
 use train::start_of;
 use train::time_train;
+use widths::least;
 ghost use mathlib.Core.Path.{_≡_};
 ghost use Prim.Native.Nat.{_≤_, min};
 ghost use lib.ListN.{length, take};
@@ -25,13 +26,7 @@ pub struct RowsAnswer {
 fn least_length(starts: &[u64], runs: &[u64], blocks: &[u64]) -> usize
     ensures { λ r. ⌜ r ≡ min (length (now (starts .entry))) (min (length (now (runs .entry))) (length (now (blocks .entry)))) ⌝ }
 {
-    lesser(starts.len(), lesser(runs.len(), blocks.len()))
-}
-
-fn lesser(a: usize, b: usize) -> usize
-    ensures { λ r. ⌜ r ≡ min a b ⌝ }
-{
-    if a < b { a } else { b }
+    least(starts.len(), least(runs.len(), blocks.len()))
 }
 
 // Writes the columns of an accepted file, with buffers for the run of a train.

@@ -1,96 +1,129 @@
 use lib.ListN.{length}
+use Prim.Native.Nat.{_≤_}
 use Rattle.values.specs.Values.{asLine, asTrain}
 use mathlib.Core.Path.{_≡_, sym, _∙_}
+use Rattle.rules.specs.Calls.{written}
+use Rattle.rules.specs.Count.{row}
 use Rattle.rules.specs.Refusal.{refusal, rulesOn}
+use Rattle.rules.specs.Run.{forward}
 use Rattle.rules.proofs.Accepted.{on-admitted}
-use Rattle.run.proofs.Answers.{decoded-parallel, refused-on, short-speeds, short-times, long-enough, buffers-kept, buffers-written, first-points}
+use Rattle.values.proofs.Parallel.{decoded-parallel}
+use Rattle.forward.proofs.Answers.{not-swept, whole-line}
+use Rattle.run.proofs.Answers.{refused-on, short-buffers, short-refused, long-enough, buffers-kept, buffers-written, first-points}
+use Rattle.run.proofs.Compose.{forward-entries, forward-long, run-over}
 use native.Mathlib.Omega.{arith}
 use borrow.Author.Needs.{needs}
 use Rattle.run.proofs.run_train.Statement.{statement}
 use Rattle.run.proofs.run_train.Tie as tie
 
-abbrev start : tie.After-size → tie.Start
+abbrev start : tie.Else1 → tie.Start
 start c = c .before .before .before .before .before
 
--- the rules of a train on a line are kept
-kept : (c : tie.After-size) → refusal (rulesOn (asLine (start c .args .line)) (asTrain (start c .args .train))) ≡ 0
-kept c = sym (c .before .before .refusal-on .ensures) ∙ c .before .if1 .left
+abbrev swept : tie.Else2 → tie.After-sweep-to
+swept c = c .before .before .before
 
-refusal-on-requires : tie.Need-refusal-on-requires
-refusal-on-requires c κs = search needs
+abbrev long : tie.Else2 → tie.Else1
+long c = swept c .before .before
 
-returns : tie.Need-returns
-returns c =
-    let a = c .before .before .before .before .args in
-    let e = refused-on _ _ _ _ (c .before .refusal-on .ensures) (c .if1 .taken) in
-    let kept = buffers-kept (asLine (a .line)) (asTrain (a .train)) (a .speeds .now) (a .times .now) e (c .if1 .taken) in
-    (e, (kept .0, (kept .1, λ z. absurd (c .if1 .taken z))))
+-- both buffers have an entry for every point
+room : (c : tie.Else1) → let a = start c .args in (a .line .points ≤ length (a .speeds .now)) × (a .line .points ≤ length (a .times .now))
+room c =
+    let sized = c .before in
+    let e = sized .before .least .ensures in
+    (omega (arith, c .if1 .left, sized .size .ensures .0, e), omega (arith, c .if1 .left, sized .size .ensures .0, e))
+
+-- the rules of a train on a line are kept, and the buffer begins with the forward row
+kept : (c : tie.Else2) → let a = start (long c) .args in refusal (rulesOn (asLine (a .line)) (asTrain (a .train))) ≡ 0
+kept c = sym (swept c .sweep-to .ensures .0) ∙ c .if2 .left
+
+forward-row :
+    (c : tie.Else2) → let a = start (long c) .args in
+    swept c .sweep-to .last .1 .1 .1 .0 ≡ written (a .speeds .now) 0 (row (forward (asLine (a .line)) (asTrain (a .train))) (a .line .points))
+forward-row c =
+    let a = start (long c) .args in
+    whole-line (asLine (a .line)) (asTrain (a .train)) (a .speeds .now) (kept c) (room (long c) .0) (swept c .sweep-to .ensures .1 .0)
+
+least-requires : tie.Need-least-requires
+least-requires c κs = search needs
 
 size-requires : tie.Need-size-requires
 size-requires c κs = search needs
 
-returns-2 : tie.Need-returns-2
-returns-2 c =
-    let sized = c .before in
-    let a = start sized .args in
-    let e = short-speeds (asLine (a .line)) (asTrain (a .train)) (length (a .speeds .now)) (length (a .times .now)) (kept sized)
-    (omega (arith, sized .size .ensures .0)) in
-    let same = buffers-kept (asLine (a .line)) (asTrain (a .train)) (a .speeds .now) (a .times .now) e (λ z. omega arith) in
-    (e, (same .0, (same .1, λ z. absurd (omega arith))))
+short-refusal-requires : tie.Need-short-refusal-requires
+short-refusal-requires c κs = search needs
 
-returns-3 : tie.Need-returns-3
-returns-3 c =
-    let sized = c .before .before in
-    let a = start sized .args in
-    let e = short-times (asLine (a .line)) (asTrain (a .train)) (length (a .speeds .now)) (length (a .times .now)) (kept sized)
-    (omega (arith, sized .size .ensures .0)) (omega (arith, sized .size .ensures .0)) in
-    let same = buffers-kept (asLine (a .line)) (asTrain (a .train)) (a .speeds .now) (a .times .now) e (λ z. omega arith) in
-    (e, (same .0, (same .1, λ z. absurd (omega arith))))
+returns : tie.Need-returns
+returns c =
+    let test = c .before in
+    let sized = test .before in
+    let a = sized .before .before .before .before .args in
+    let l = asLine (a .line) in
+    let t = asTrain (a .train) in
+    let never = short-refused l t (c .short-refusal .ensures) in
+    let e = short-buffers l t (length (a .speeds .now)) (length (a .times .now)) (c .short-refusal .ensures)
+    (omega (arith, test .if1 .taken, sized .size .ensures .0, sized .before .least .ensures)) in
+    let same = buffers-kept l t (a .speeds .now) (a .times .now) e never in
+    (e, (same .0, (same .1, λ z. absurd (never z))))
 
-write-run-requires : tie.Need-write-run-requires
-write-run-requires c κs =
-    let test = c .before .before in
-    let sized = test .before .before in
-    let a = start sized .args in (
-      on-admitted _ _ (kept sized) (decoded-parallel (a .line) (a .train)),
-      (
-        omega (arith, sized .size .ensures .0, test .before .if2 .left),
-        omega (arith, sized .size .ensures .0, test .if3 .left),
-      ),
-    )
+sweep-to-requires : tie.Need-sweep-to-requires
+sweep-to-requires c κs = search needs
 
 same-length : tie.Need-same-length
 same-length c = search needs
 
+returns-2 : tie.Need-returns-2
+returns-2 c =
+    let sweep = c .before .before .before .sweep-to .ensures in
+    let a = start (c .before .before .before .before .before) .args in
+    let l = asLine (a .line) in
+    let t = asTrain (a .train) in
+    let e = refused-on l t (length (a .speeds .now)) (length (a .times .now)) (sweep .0) (c .if2 .taken) in
+    let same = buffers-kept l t (a .speeds .now) (a .times .now) e (c .if2 .taken) in
+    let left = sweep .1 .0 ∙ sym (not-swept l t (a .line .points) (a .speeds .now) (λ z. c .if2 .taken (sweep .0 ∙ z))) in
+    (e, (left ∙ same .0, (same .1, λ z. absurd (c .if2 .taken z))))
+
+write-run-requires : tie.Need-write-run-requires
+write-run-requires c κs =
+    let s = c .before .before in
+    let a = start (long s) .args in
+    let r = room (long s) in
+    let e = forward-row s in
+    let same = forward-long _ _ (a .speeds .now) e (r .0) in
+    (on-admitted _ _ (kept s) (decoded-parallel (a .line) (a .train)), ((omega (arith, same, r .0), r .1), forward-entries _ _ (a .speeds .now) e))
+
 same-length-2 : tie.Need-same-length-2
 same-length-2 c = search needs
 
-returns-4 : tie.Need-returns-4
-returns-4 c =
+same-length-3 : tie.Need-same-length-3
+same-length-3 c = search needs
+
+returns-3 : tie.Need-returns-3
+returns-3 c =
     let wrote = c .before .before .before .before in
-    let test = wrote .before .before .before in
-    let sized = test .before .before in
-    let a = start sized .args in
+    let s = wrote .before .before .before in
+    let a = start (long s) .args in
     let l = asLine (a .line) in
     let t = asTrain (a .train) in
-    let z = kept sized in
-    let e = long-enough l t (length (a .speeds .now)) (length (a .times .now)) z (omega (arith, sized .size .ensures .0, test .before .if2 .left))
-    (omega (arith, sized .size .ensures .0, test .if3 .left)) in
+    let r = room (long s) in
+    let e = long-enough l t (length (a .speeds .now)) (length (a .times .now)) (kept s) (r .0) (r .1) in
     let w = wrote .write-run .ensures in
-    let same = buffers-written l t (a .speeds .now) (a .times .now) e (w .0) (w .1) in
-    let admitted = on-admitted _ _ z (decoded-parallel (a .line) (a .train)) in
-    (e, (same .0, (same .1, λ y. first-points l t admitted (a .speeds .now) (a .times .now) (w .0) (w .1))))
+    let speeds = run-over l t (a .speeds .now) (forward-row s) (w .0) in
+    let same = buffers-written l t (a .speeds .now) (a .times .now) e speeds (w .1) in
+    let admitted = on-admitted _ _ (kept s) (decoded-parallel (a .line) (a .train)) in
+    (e, (same .0, (same .1, λ y. first-points l t admitted (a .speeds .now) (a .times .now) speeds (w .1))))
 
 pub run-train-spec : {M : Type 1} → statement M
 run-train-spec =
     tie.close
     (tie.spec
-    refusal-on-requires
-    returns
+    least-requires
     size-requires
-    returns-2
-    returns-3
-    write-run-requires
+    short-refusal-requires
+    returns
+    sweep-to-requires
     same-length
+    returns-2
+    write-run-requires
     same-length-2
-    returns-4)
+    same-length-3
+    returns-3)

@@ -1,42 +1,44 @@
 use Prim.Native.Nat.{ℕ}
 use Rattle.values.specs.Values.{asLine, asTrain}
 use mathlib.Core.Path.{_≡_}
-use mathlib.Core.List.{List, _++_}
-use lib.ListN.{drop}
-use Rattle.rules.specs.Run.{runRow}
-use Rattle.run.proofs.Traction.{loss-most}
-use Rattle.run.proofs.Compose.{forward-most, sweeps-run, row-long, run-long, run-entries, run-written}
+use mathlib.Core.List.{List}
+use Rattle.rules.specs.Calls.{written}
+use Rattle.rules.specs.Run.{brakingLoss, runRow}
+use Rattle.rules.proofs.Step.{loss-most}
+use Rattle.run.proofs.Compose.{forward-most, sweeps-run, run-long, run-entries}
 use native.Mathlib.Omega.{arith}
 use borrow.Author.Needs.{needs}
 use Rattle.run.proofs.write_run.Statement.{statement}
 use Rattle.run.proofs.write_run.Tie as tie
 
-abbrev forward : tie.After-size → tie.After-write-forward
-forward c = c .before .before .before .before .before
-
 abbrev start : tie.After-size → tie.Start
-start c = forward c .before .before .before .before
+start c = c .before .before .before .before .before
+
+-- G in 32 bits
+loss :
+    (c : tie.After-size) →
+    let a = start c in
+    c .before .narrow .result ≡ brakingLoss (asLine (a .args .line)) (asTrain (a .args .train))
+loss c =
+    let narrowed = c .before in
+    omega (arith, loss-most _ _ (start c .pre .0), narrowed .narrow .ensures, narrowed .before .braking-loss .ensures)
 
 -- the buffer after both sweeps
 abbrev Run : (a : tie.Start) → List ℕ → Type 0
-Run a s = s ≡ runRow (asLine (a .args .line)) (asTrain (a .args .train)) ++ drop (a .args .line .points) (a .args .speeds .now)
+Run a s = s ≡ written (a .args .speeds .now) 0 (runRow (asLine (a .args .line)) (asTrain (a .args .train)))
 
 run-done : (c : tie.After-write-backward) → Run (start (c .before .before)) (c .write-backward .last .1 .1 .0)
 run-done c =
     let sized = c .before .before in
-    let loss = sized .before in
     let a = start sized in
-    sweeps-run (asLine (a .args .line)) (asTrain (a .args .train)) (a .args .speeds .now) _ (forward sized .write-forward .ensures) _
-    (rw (sized .size .ensures .0, loss .narrow .ensures, loss .before .braking-loss .ensures) at (c .write-backward .ensures))
-
-write-forward-requires : tie.Need-write-forward-requires
-write-forward-requires c κs = search needs
+    sweeps-run (asLine (a .args .line)) (asTrain (a .args .train)) (a .args .speeds .now) (a .pre .1 .1)
+    (rw (sized .size .ensures .0, loss sized) at (c .write-backward .ensures))
 
 braking-loss-requires : tie.Need-braking-loss-requires
 braking-loss-requires c κs = search needs
 
 narrow-requires : tie.Need-narrow-requires
-narrow-requires c κs = omega (arith, loss-most _ _ (c .before .before .before .before .before .before .before .pre .0), c .braking-loss .ensures)
+narrow-requires c κs = search needs
 
 size-requires : tie.Need-size-requires
 size-requires c κs = search needs
@@ -44,17 +46,14 @@ size-requires c κs = search needs
 write-backward-requires : tie.Need-write-backward-requires
 write-backward-requires c κs =
     let sized = c .before in
-    let loss = sized .before in
     let a = start sized in
-    let e = forward sized .write-forward .ensures in
-    let long = row-long _ _ (a .args .speeds .now) e (a .pre .1 .0) in
     let points = sized .size .ensures .0 in (
       (
         omega (arith, a .pre .0 .rule3Line .points-least, points),
-        omega (arith, a .pre .1 .0, points),
-        omega (arith, loss-most _ _ (a .pre .0), loss .narrow .ensures, loss .before .braking-loss .ensures),
+        omega (arith, a .pre .1 .0 .0, points),
+        omega (arith, loss-most _ _ (a .pre .0), loss sized),
       ),
-      λ k h. forward-most _ _ _ _ e (a .pre .0) k (omega (arith, points)),
+      λ k h. forward-most _ _ (a .args .speeds .now) (a .pre .1 .1) (a .pre .0) k (omega (arith, points)),
     )
 
 write-times-requires : tie.Need-write-times-requires
@@ -62,8 +61,8 @@ write-times-requires c κs =
     let swept = c .before .before .before .before in
     let a = start (swept .before .before) in
     let e = run-done swept in
-    let long = run-long _ _ (a .args .speeds .now) e (a .pre .1 .0) in
-    (a .pre .0, ((omega (arith, long, a .pre .1 .0), a .pre .1 .1), run-entries _ _ (a .args .speeds .now) e))
+    let long = run-long _ _ (a .args .speeds .now) e (a .pre .1 .0 .0) in
+    (a .pre .0, ((omega (arith, long, a .pre .1 .0 .0), a .pre .1 .0 .1), run-entries _ _ (a .args .speeds .now) e))
 
 same-length : tie.Need-same-length
 same-length c = search needs
@@ -74,14 +73,12 @@ same-length-2 c = search needs
 returns : tie.Need-returns
 returns c =
     let timed = c .before .before in
-    let swept = timed .before .before .before .before .before in
-    (run-written _ _ (start (swept .before .before) .args .speeds .now) (run-done swept), timed .write-times .ensures)
+    (run-done (timed .before .before .before .before .before), timed .write-times .ensures)
 
 pub write-run-spec : {M : Type 1} → statement M
 write-run-spec =
     tie.close
     (tie.spec
-    write-forward-requires
     braking-loss-requires
     narrow-requires
     size-requires

@@ -14,12 +14,12 @@ Inv-loop stops count next i end s₀ s = stopFrom (used stops count) s i ≡ sto
 abbrev μ-loop : tie.MeasureT-loop
 μ-loop stops count next i end s₀ s = end - s
 
-lesser-requires : tie.Need-lesser-requires Inv-loop μ-loop
-lesser-requires c κs = search needs
+least-requires : tie.Need-least-requires Inv-loop μ-loop
+least-requires c κs = search needs
 
 -- the stop at hand is in use
 in-use : (c : tie.In-loop Inv-loop μ-loop) → c .before .loop .s < min (c .before .before .before .args .count) 64
-in-use c = omega (arith, c .before .before .lesser .ensures, c .loop-test .taken)
+in-use c = omega (arith, c .before .before .least .ensures, c .loop-test .taken)
 
 loop-holds : tie.Need-loop-holds Inv-loop μ-loop
 loop-holds c = refl
@@ -60,7 +60,7 @@ loop-again c =
 returns-2 : tie.Need-returns-2 Inv-loop μ-loop
 returns-2 c =
     let o = c .before .loop in
-    from-end _ _ (rw length-row (omega (arith, c .before .before .lesser .ensures, c .loop-test .left))) ∙ o .inv
+    from-end _ _ (rw length-row (omega (arith, c .before .before .least .ensures, c .loop-test .left))) ∙ o .inv
 
 pub stop-from-spec : {M : Type 1} → statement M
 stop-from-spec =
@@ -68,7 +68,7 @@ stop-from-spec =
     (tie.spec
     Inv-loop
     μ-loop
-    lesser-requires
+    least-requires
     loop-holds
     mul-size
     element-copy-out-size

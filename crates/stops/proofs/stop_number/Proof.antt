@@ -7,8 +7,8 @@ use borrow.Author.Needs.{needs}
 use Rattle.stops.proofs.stop_number.Statement.{statement}
 use Rattle.stops.proofs.stop_number.Tie as tie
 
-lesser-requires : tie.Need-lesser-requires
-lesser-requires c κs = search needs
+least-requires : tie.Need-least-requires
+least-requires c κs = search needs
 
 mul-size : tie.Need-mul-size
 mul-size c = search needs
@@ -23,7 +23,7 @@ returns : tie.Need-returns
 returns c =
     let test = c .before .before in
     let a = test .before .before .args in
-    let within : a .number < min (a .count) 64 = omega (arith, test .before .lesser .ensures, test .if1 .taken) in
+    let within : a .number < min (a .count) 64 = omega (arith, test .before .least .ensures, test .if1 .taken) in
     rw (
       point-there (used (a .stops .now) (a .count)) (used-there (a .stops .now) (a .count) within),
       used-at (a .stops .now) (a .count) within,
@@ -33,9 +33,9 @@ returns c =
 returns-2 : tie.Need-returns-2
 returns-2 c =
     let a = c .before .before .args in
-    rw (point-none (used (a .stops .now) (a .count)) {s = a .number} (rw length-row (omega (arith, c .before .lesser .ensures, c .if1 .left))))
+    rw (point-none (used (a .stops .now) (a .count)) {s = a .number} (rw length-row (omega (arith, c .before .least .ensures, c .if1 .left))))
 
 pub stop-number-spec : {M : Type 1} → statement M
 stop-number-spec =
     tie.close
-    (tie.spec lesser-requires mul-size element-copy-out-size size-requires returns returns-2)
+    (tie.spec least-requires mul-size element-copy-out-size size-requires returns returns-2)

@@ -18,8 +18,8 @@ abbrev μ-loop : tie.MeasureT-loop
 size-requires : tie.Need-size-requires Inv-loop μ-loop
 size-requires c κs = search needs
 
-lesser-requires : tie.Need-lesser-requires Inv-loop μ-loop
-lesser-requires c κs = search needs
+least-requires : tie.Need-least-requires Inv-loop μ-loop
+least-requires c κs = search needs
 
 loop-holds : tie.Need-loop-holds Inv-loop μ-loop
 loop-holds c = (search needs, fill-none _ _ _)
@@ -61,7 +61,7 @@ words-at-spec =
     Inv-loop
     μ-loop
     size-requires
-    lesser-requires
+    least-requires
     loop-holds
     mul-word-at
     add-word-at

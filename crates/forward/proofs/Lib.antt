@@ -1,0 +1,3 @@
+pub mod Traction
+pub mod Sweeping
+pub mod Answers

@@ -1,0 +1,3 @@
+pub mod Traction
+pub mod Stretch
+pub mod Calls
