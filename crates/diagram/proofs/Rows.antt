@@ -1,23 +1,21 @@
 -- The rows of a run in arrays of 4,096 places, and the diagram that they give. Assumes nothing.
 use Prim.Native.Nat.{ℕ, _^_, _≤_, _<_}
 use mathlib.Core.List.{List}
-use mathlib.Core.Path.{_≡_, sym, _∙_}
+use mathlib.Core.Path.{_≡_, _∙_}
 use native.Mathlib.Omega.{arith}
 use lib.ListN.{length, replicate, length-replicate}
 use Rattle.rules.specs.Admitted.{Admitted}
 use Rattle.rules.specs.Calls.{written}
-use Rattle.rules.specs.Count.{entry, row}
+use Rattle.rules.specs.Count.{entry}
 use Rattle.rules.specs.Diagram.{diagramPoint, diagramDot, diagramBytes}
 use Rattle.rules.specs.Line.{Line, Train}
 use Rattle.rules.specs.Refusal.{refusal, rulesOn}
-use Rattle.rules.specs.Run.{runRow, runAt}
-use Rattle.rules.specs.Time.{arrival, arrivals, runTimes}
+use Rattle.rules.specs.Run.{runRow}
+use Rattle.rules.specs.Time.{runTimes}
 use Rattle.rules.proofs.Calls.{lent-written}
-use Rattle.rules.proofs.Count.{length-row}
-use Rattle.rules.proofs.Fill.{entry-in}
-use Rattle.rules.proofs.Run.{entry-run}
-use Rattle.rules.proofs.Time.{arrival-most, entry-times}
-use Rattle.rules.proofs.Written.{written-long, written-row, joined-agree}
+use Rattle.rules.proofs.Run.{length-run}
+use Rattle.rules.proofs.Time.{arrival-most, length-times, entry-times}
+use Rattle.rules.proofs.Written.{written-long, written-entries, joined-agree}
 use Rattle.run.specs.Calls.{runRefusalOn, speedsOn, timesOn}
 use Rattle.run.proofs.Answers.{long-enough}
 use Rattle.diagram.specs.Points.{pointAt, pointsOf}
@@ -34,12 +32,9 @@ module _ (l : Line) (t : Train) (a : Admitted l t) (z : refusal (rulesOn l t) �
 
   -- a row in front of its array
   in-front :
-      {after : List ℕ} (f : ℕ → ℕ) → after ≡ written zeros 0 (row f (l .points)) →
-      ((i : ℕ) → i < l .points → entry after i ≡ f i) × (l .points ≤ length after)
-  in-front f e = (
-    λ i h. rw (e, written-row f (l .points) zeros) (entry-in f (l .points) _ i h),
-    rw (written-long zeros (row f (l .points)) e (rw (length-row, places) few), places) few,
-  )
+      (xs : List ℕ) {after : List ℕ} → length xs ≡ l .points → after ≡ written zeros 0 xs →
+      ((i : ℕ) → i < l .points → entry after i ≡ entry xs i) × (l .points ≤ length after)
+  in-front xs n e = (λ i h. written-entries zeros xs e i (rw n h), rw (written-long zeros xs e (rw (n, places) few), places) few)
 
   -- what the calls leave in the arrays; p is P
   module _ {p : ℕ} (q : p ≡ l .points) {speeds times : List ℕ} (s : speeds ≡ speedsOn l t zeros zeros) (m : times ≡ timesOn l t zeros zeros) where
@@ -51,16 +46,11 @@ module _ (l : Line) (t : Train) (a : Admitted l t) (z : refusal (rulesOn l t) �
     speeds-put = s ∙ rw (← accepted) (lent-written _ zeros)
 
     pub speeds-front : ((i : ℕ) → i < p → entry speeds i ≡ entry (runRow l t) i) × (p ≤ length speeds)
-    unfolding runRow
-    speeds-front =
-        let put = in-front (runAt l t) speeds-put in
-        rw q (λ i h. put .0 i h ∙ sym (entry-run l t i h), put .1)
+    speeds-front = rw q (in-front (runRow l t) (length-run l t) speeds-put)
 
     pub times-front : ((i : ℕ) → i < p → entry times i ≡ entry (runTimes l t) i) × (p ≤ length times)
-    unfolding timesOn arrivals
-    times-front =
-        let put = in-front (arrival l t (runRow l t)) (m ∙ rw (← accepted) (lent-written _ zeros)) in
-        rw q (λ i h. put .0 i h ∙ sym (entry-times l t i h), put .1)
+    unfolding timesOn
+    times-front = rw q (in-front (runTimes l t) (length-times l t) (m ∙ rw (← accepted) (lent-written _ zeros)))
 
     pub times-small : (i : ℕ) → i < p → entry times i < 2 ^ 53
     times-small i h =

@@ -1,25 +1,25 @@
 -- What the hold calls answer, refused and accepted. Assumes nothing.
-use Prim.Native.Nat.{ℕ, _+_, _≤_, _<_}
+use Prim.Native.Nat.{ℕ, _≤_, _<_}
 use mathlib.Core.Bool.{Bool, true, false}
 use mathlib.Core.List.{List}
 use mathlib.Core.Path.{_≡_, refl, sym, _∙_}
-use native.Mathlib.Nat.{zero-add}
 use native.Mathlib.Omega.{arith}
 use lib.Dec.{eqb}
 use lib.ListN.{length}
 use borrow.Author.Tests.{eqb-true, eqb-false, eq-eqb, ne-eqb, leb-true}
-use Rattle.rules.specs.Count.{entry, row}
+use Rattle.rules.specs.Count.{entry}
 use Rattle.rules.specs.Line.{Line, Train, lineOf, trainOf}
 use Rattle.rules.specs.Hold.{Hold, emptyHold, holdOf}
 use Rattle.rules.specs.Refusal.{refusal, rulesOn, buffersLong}
-use Rattle.rules.specs.Run.{runRow, runAt}
-use Rattle.rules.specs.Time.{arrival, arrivals, runTimes}
+use Rattle.rules.specs.Run.{runRow}
+use Rattle.rules.specs.Time.{runTimes}
 use Rattle.rules.specs.Admitted.{Parallel, Admitted}
 use Rattle.rules.specs.Calls.{HoldAnswer, held, written, trainRefusal, runRefusal}
-use Rattle.rules.specs.Meaning.{IsWritten}
-use Rattle.rules.proofs.Count.{and-left, and-right, length-row}
-use Rattle.rules.proofs.Calls.{written-is, lent-written}
-use Rattle.rules.proofs.Written.{written-long}
+use Rattle.rules.proofs.Count.{and-left, and-right}
+use Rattle.rules.proofs.Calls.{lent-written}
+use Rattle.rules.proofs.Run.{length-run}
+use Rattle.rules.proofs.Time.{length-times}
+use Rattle.rules.proofs.Written.{written-long, written-entries}
 use Rattle.rules.proofs.Accepted.{on-admitted}
 use Rattle.run.specs.Calls.{runRefusalOn, speedsOn, timesOn}
 use Rattle.run.proofs.Answers.{refused-on, by-buffers, as-run}
@@ -53,14 +53,6 @@ module _ (l : Line) (t : Train) (ns nt : ℕ) where
           (k, long .0, long .1)
       go false e = absurd (eqb-false _ 0 e (refused-on l t ns nt refl (eqb-false _ 0 e) ∙ z))
 
--- a buffer after the run has the row at its beginning
-module _ (f : ℕ → ℕ) (n : ℕ) (s : List ℕ) {s′ : List ℕ} (e : s′ ≡ written s 0 (row f n)) (h : n ≤ length s) where
-  here : IsWritten s 0 (row f n) s′
-  here = rw e (written-is s 0 (row f n) (rw (length-row f n, zero-add n) h))
-
-  pub written-entries : (k : ℕ) → k < n → entry s′ k ≡ entry (row f n) k
-  written-entries k l = let p : entry s′ (0 + k) ≡ entry (row f n) k = here .inside k (rw (length-row f n) l) in rw (zero-add k) at p
-
 -- what an accepted run gives the hold
 module _ (l : Line) (t : Train) (same : Parallel l t) (speeds times : List ℕ) where
   pub run-done :
@@ -68,21 +60,19 @@ module _ (l : Line) (t : Train) (same : Parallel l t) (speeds times : List ℕ) 
       timesOn l t speeds times →
       Admitted l t × ((l .points ≤ length speeds′) × (l .points ≤ length times′)) × ((k : ℕ) → k < l .points → entry speeds′ k ≡ entry (runRow l t) k) ×
       ((k : ℕ) → k < l .points → entry times′ k ≡ entry (runTimes l t) k)
-  unfolding speedsOn timesOn runRow arrivals
+  unfolding speedsOn timesOn
   run-done {r} {speeds′} {times′} e z p q =
       let n : runRefusalOn l t (length speeds) (length times) ≡ 0 = sym e ∙ z in
       let ok = accepted-on l t (length speeds) (length times) n in
-      let s : speeds′ ≡ written speeds 0 (row (runAt l t) (l .points)) = p ∙ rw n (lent-written _ speeds) in
-      let m : times′ ≡ written times 0 (row (arrival l t (row (runAt l t) (l .points))) (l .points)) =
-      q ∙ rw n (lent-written _ times) in (
+      let s : speeds′ ≡ written speeds 0 (runRow l t) = p ∙ rw n (lent-written _ speeds) in
+      let m : times′ ≡ written times 0 (runTimes l t) = q ∙ rw n (lent-written _ times) in (
         on-admitted l t (ok .0) same,
         (
-          rw (written-long speeds (row (runAt l t) (l .points)) s (rw length-row (ok .1))) (ok .1),
-          rw
-              (written-long times (row (arrival l t (row (runAt l t) (l .points))) (l .points)) m (rw length-row (ok .2))) (ok .2),
+          rw (written-long speeds (runRow l t) s (rw (length-run l t) (ok .1))) (ok .1),
+          rw (written-long times (runTimes l t) m (rw (length-times l t) (ok .2))) (ok .2),
         ),
-        written-entries _ _ speeds s (ok .1),
-        written-entries _ _ times m (ok .2),
+        λ k h. written-entries speeds (runRow l t) s k (rw (length-run l t) h),
+        λ k h. written-entries times (runTimes l t) m k (rw (length-times l t) h),
       )
 
 -- ---- of a file

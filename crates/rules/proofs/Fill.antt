@@ -75,10 +75,10 @@ fill-down {f} {a} {b} {c} {v} {s₀} {s} r l e h q =
     at k m n (no g) = getD-set-other s a k v 0 (omega arith) ∙ r .inside k (omega arith) n
 
 module _ (f : ℕ → ℕ) (n : ℕ) (r : List ℕ) where
-  pub entry-in : (k : ℕ) → k < n → entry (row f n ++ r) k ≡ f k
+  entry-in : (k : ℕ) → k < n → entry (row f n ++ r) k ≡ f k
   entry-in k h = List·getD-append (row f n) r 0 k (rw length-row h) ∙ entry-row f n k h
 
-  pub entry-past : (k : ℕ) → entry (row f n ++ r) (n + k) ≡ entry r k
+  entry-past : (k : ℕ) → entry (row f n ++ r) (n + k) ≡ entry r k
   entry-past k = let g : entry (row f n ++ r) (length (row f n) + k) ≡ entry r k = getD-append-add (row f n) r k 0 in rw length-row at g
 
 -- the whole buffer, as one equation

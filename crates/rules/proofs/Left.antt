@@ -11,7 +11,7 @@ use Rattle.rules.specs.Count.{entry}
 use Rattle.rules.specs.Hold.{Hold, emptyHold}
 use Rattle.rules.specs.Sheet.{Sheet, begin, end, freeTime, firstBegin, leastStart, sheetAfter}
 use Rattle.rules.specs.Refusal.{firstBroken, addingRules}
-use Rattle.rules.specs.Calls.{accepted, added}
+use Rattle.rules.specs.Calls.{added}
 use Rattle.rules.specs.Demand.{answers, leftBy, starts, trains}
 use Rattle.rules.specs.Admitted.{Rule14}
 use Rattle.rules.proofs.Sheet.{start-zero, after-is, either-way, all-kept, Sound, freed, sound-added}

@@ -15,7 +15,7 @@ use Rattle.rules.specs.Run.{runRow}
 use Rattle.rules.specs.Time.{root, cellTime, dwellFrom, dwell, arrival, departure, arrivals, runTimes, Reaches, FastestRun}
 use Rattle.rules.specs.Admitted.{Admitted}
 use Rattle.rules.specs.Meaning.{IsRoundedUp, IsStop, IsDwell}
-use Rattle.rules.proofs.Count.{rises-far, entry-row, rounded-up, ceil-antitone}
+use Rattle.rules.proofs.Count.{rises-far, length-row, entry-row, rounded-up, ceil-antitone}
 use Rattle.rules.proofs.Cap.{stops-rise, find-stop}
 use Rattle.rules.proofs.Run.{run-is, run-moves, no-two-zeros}
 use Rattle.rules.proofs.Root.{root-mono, root-least}
@@ -94,6 +94,10 @@ module _ (l : Line) (t : Train) (speeds : List ℕ) where
   departs-before i zero h = absurd (omega arith)
   departs-before i (suc j) h =
       ⊎-elim (λ e. rw e (omega arith)) (λ g. omega (arith, departs-before i j g)) (eq-or-lt-of-le (le-of-suc-le-suc h))
+
+pub length-times : (l : Line) (t : Train) → length (runTimes l t) ≡ l .points
+unfolding arrivals
+length-times l t = length-row (arrival l t (runRow l t)) (l .points)
 
 pub entry-times : (l : Line) (t : Train) (i : ℕ) → i < l .points → entry (runTimes l t) i ≡ arrival l t (runRow l t) i
 unfolding arrivals

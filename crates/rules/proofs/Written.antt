@@ -6,10 +6,10 @@ use mathlib.Core.Path.{_≡_, refl, sym, ap, ap₂, _∙_}
 use native.Mathlib.Nat.{zero-add, add-zero, eq-or-lt-of-le}
 use native.Mathlib.Numerals.{add-one}
 use native.Mathlib.Omega.{arith}
-use lib.ListN.{length, take, drop, set, length-append, length-take, length-drop, take-append-drop}
+use lib.ListN.{length, take, drop, set, length-append, length-take, length-drop, take-append-drop, List·getD-append}
 use lib.Seq.{take-at, drop-at, drop-append-add, drop-drop, set-split}
 use Rattle.rules.specs.Calls.{written}
-use Rattle.rules.specs.Count.{row}
+use Rattle.rules.specs.Count.{entry, row}
 use Rattle.rules.specs.Text.{joined}
 use Rattle.rules.proofs.Count.{length-row}
 use Rattle.rules.proofs.Fill.{Filled, fill-done}
@@ -51,13 +51,16 @@ module _ (s xs : List ℕ) where
   pub written-long : {s′ : List ℕ} → s′ ≡ written s 0 xs → length xs ≤ length s → length s′ ≡ length s
   written-long e h = rw (e, written-front s xs) (simp (length-append, length-drop) (omega arith))
 
+  pub written-entries : {s′ : List ℕ} → s′ ≡ written s 0 xs → (k : ℕ) → k < length xs → entry s′ k ≡ entry xs k
+  written-entries e k h = rw (e, written-front s xs) (List·getD-append xs (drop (length xs) s) 0 k h)
+
 -- values over as many others
 pub written-over : (s xs ys : List ℕ) → length xs ≡ length ys → written (written s 0 xs) 0 ys ≡ written s 0 ys
 written-over s xs ys e =
     rw (written-front s xs, written-front s ys, written-front (xs ++ drop (length xs) s) ys)
     (ap (_++_ ys) (drop-at xs (drop (length xs) s) (length ys) e ∙ ap (λ (k : ℕ). drop k s) e))
 
-pub written-row : (f : ℕ → ℕ) (n : ℕ) (s : List ℕ) → written s 0 (row f n) ≡ row f n ++ drop n s
+written-row : (f : ℕ → ℕ) (n : ℕ) (s : List ℕ) → written s 0 (row f n) ≡ row f n ++ drop n s
 written-row f n s = rw length-row at (written-front s (row f n))
 
 -- the first entries are the row

@@ -4,18 +4,16 @@ use mathlib.Core.List.{List}
 use mathlib.Core.Path.{_≡_, sym, ap, _∙_}
 use native.Mathlib.Nat.{le-trans}
 use native.Mathlib.Omega.{arith}
-use lib.ListN.{length, List·getD-append}
 use Rattle.rules.specs.Count.{entry, row}
 use Rattle.rules.specs.Line.{Line, Train}
 use Rattle.rules.specs.Run.{brakingLoss, backwardBefore, backwardSweep, forward, runAt, runRow}
 use Rattle.rules.specs.Admitted.{Admitted}
 use Rattle.rules.specs.Calls.{written}
-use Rattle.rules.proofs.Count.{length-row}
+use Rattle.rules.proofs.Count.{length-row, entry-row}
 use Rattle.rules.proofs.Loops.{row-agree}
-use Rattle.rules.proofs.Fill.{entry-in}
 use Rattle.rules.proofs.Cap.{cap-most}
 use Rattle.rules.proofs.Run.{forward-cap, length-run}
-use Rattle.rules.proofs.Written.{written-front, written-long, written-over, written-row}
+use Rattle.rules.proofs.Written.{written-entries, written-over}
 
 -- the backward sweep depends on its tops below n alone
 module _ (tops others : ℕ → ℕ) (loss n : ℕ) (same : (k : ℕ) → k < n → tops k ≡ others k) where
@@ -42,18 +40,7 @@ module _ (l : Line) (t : Train) (s₀ : List ℕ) (swept : (k : ℕ) → k < l .
 -- s₁ is s₀ after the forward sweep
 module _ (l : Line) (t : Train) (s₀ : List ℕ) {s₁ : List ℕ} (e : s₁ ≡ written s₀ 0 (row (forward l t) (l .points))) where
   pub forward-entries : (k : ℕ) → k < l .points → entry s₁ k ≡ forward l t k
-  forward-entries k h = rw (e, written-row (forward l t) (l .points) s₀) (entry-in (forward l t) (l .points) _ k h)
-
-  pub forward-long : l .points ≤ length s₀ → length s₁ ≡ length s₀
-  forward-long h = written-long s₀ _ e (rw length-row h)
+  forward-entries k h = written-entries s₀ _ e k (rw length-row h) ∙ entry-row (forward l t) (l .points) k h
 
   pub run-over : {s : List ℕ} → s ≡ written s₁ 0 (runRow l t) → s ≡ written s₀ 0 (runRow l t)
   run-over q = q ∙ rw e (written-over s₀ _ (runRow l t) (length-row _ (l .points) ∙ sym (length-run l t)))
-
--- a buffer that begins with the run
-module _ (l : Line) (t : Train) (s₀ : List ℕ) {s : List ℕ} (e : s ≡ written s₀ 0 (runRow l t)) where
-  pub run-long : l .points ≤ length s₀ → length s ≡ length s₀
-  run-long h = written-long s₀ (runRow l t) e (rw (length-run l t) h)
-
-  pub run-entries : (k : ℕ) → k < l .points → entry s k ≡ entry (runRow l t) k
-  run-entries k h = rw (e, written-front s₀ (runRow l t)) (List·getD-append (runRow l t) _ 0 k (rw (length-run l t) h))

@@ -2,7 +2,6 @@
 use Prim.Native.Nat.{ℕ, _-_, _≤_}
 use mathlib.Core.List.{List}
 use mathlib.Core.Path.{_≡_, sym, _∙_}
-use native.Mathlib.Nat.{zero-add}
 use native.Mathlib.Omega.{arith}
 use lib.ListN.{length}
 use borrow.Author.Tests.{eq-eqb}
@@ -12,23 +11,16 @@ use Rattle.rules.specs.Count.{entry}
 use Rattle.rules.specs.Hold.{holdOf}
 use Rattle.rules.specs.Line.{Line, Train}
 use Rattle.rules.specs.Run.{runRow}
-use Rattle.rules.specs.Time.{arrivals, runTimes}
+use Rattle.rules.specs.Time.{runTimes}
 use Rattle.rules.proofs.Accepted.{on-kept}
-use Rattle.rules.proofs.Calls.{written-is, lent-written}
-use Rattle.rules.proofs.Count.{length-row}
-use Rattle.rules.proofs.Written.{written-long}
+use Rattle.rules.proofs.Calls.{lent-written}
+use Rattle.rules.proofs.Run.{length-run}
+use Rattle.rules.proofs.Time.{length-times}
+use Rattle.rules.proofs.Written.{written-long, written-entries}
 use Rattle.run.specs.Calls.{runRefusalOn, speedsOn, timesOn}
 use Rattle.run.proofs.Answers.{long-enough}
 use Rattle.hold.specs.Calls.{heldOn}
 use Rattle.study.specs.Rows.{lastArrival}
-
-length-times : (l : Line) (t : Train) → length (runTimes l t) ≡ l .points
-unfolding arrivals
-length-times l t = length-row _ _
-
-length-speeds : (l : Line) (t : Train) → length (runRow l t) ≡ l .points
-unfolding runRow
-length-speeds l t = length-row _ _
 
 -- an admitted train is not refused where the buffers are long enough
 module _
@@ -44,7 +36,7 @@ module _
   pub speeds-long : {s : List ℕ} → s ≡ speedsOn l t′ speeds times → length s ≡ length speeds
   unfolding speedsOn
   speeds-long f =
-      written-long speeds (runRow l t) (f ∙ rw (not-refused, e) (lent-written _ speeds)) (rw (length-speeds l t) p)
+      written-long speeds (runRow l t) (f ∙ rw (not-refused, e) (lent-written _ speeds)) (rw (length-run l t) p)
 
   times-taken : {s : List ℕ} → s ≡ timesOn l t′ speeds times → s ≡ written times 0 (runTimes l t)
   unfolding timesOn
@@ -55,7 +47,5 @@ module _
 
   -- the arrival at the last point
   pub last-arrival : {s : List ℕ} → s ≡ timesOn l t′ speeds times → entry s (l .points - 1) ≡ lastArrival l t
-  last-arrival {s} f =
-      let w = written-is times 0 (runTimes l t) (rw (length-times l t, zero-add) q) in
-      let m : s ≡ written times 0 (runTimes l t) = times-taken f in
-      rw m (rw zero-add at (w .inside (l .points - 1) (rw (length-times l t) (omega (arith, a .rule3Line .points-least)))))
+  last-arrival f =
+      written-entries times (runTimes l t) (times-taken f) (l .points - 1) (rw (length-times l t) (omega (arith, a .rule3Line .points-least)))

@@ -6,8 +6,7 @@ use native.Mathlib.Numerals.{add-one}
 use native.Mathlib.Omega.{arith}
 use lib.ListN.{length}
 use Rattle.rules.specs.Admitted.{Admitted}
-use Rattle.rules.specs.Calls.{Opening, Addition, written, opened, added, fileRefusal}
-use Rattle.rules.specs.Count.{row}
+use Rattle.rules.specs.Calls.{Opening, Addition, opened, added, fileRefusal}
 use Rattle.rules.specs.File.{trainCount, trainsAt, recordAt, recordSize, bandCount, stopCount}
 use Rattle.rules.specs.Hold.{Hold, holdOf}
 use Rattle.rules.specs.Line.{Line, lineOf, trainAt, trainOf}
@@ -15,11 +14,9 @@ use Rattle.rules.specs.Sheet.{Sheet, fresh}
 use Rattle.rules.specs.Text.{runningTime}
 use Rattle.rules.proofs.Accepted.{file-there, line-sizes, admitted}
 use Rattle.rules.proofs.Answers.{Rest, rest-first, rest-here, rest-next}
-use Rattle.rules.proofs.Count.{within-holds, length-row}
+use Rattle.rules.proofs.Count.{within-holds}
 use Rattle.rules.proofs.Demand.{opened-fresh}
 use Rattle.rules.proofs.File.{length-words, partFrom, part-is, part-next, part-inside, record-first, train-drop, trains-within}
-use Rattle.rules.proofs.Fill.{Filled, fill-done}
-use Rattle.rules.proofs.Written.{written-front}
 use Rattle.values.specs.declared.decoded.Line as decoded
 use Rattle.values.specs.Values.{asLine}
 use Rattle.reading.specs.Decoded.{decodedLine}
@@ -106,9 +103,3 @@ module _ (file : List ℕ) (ok : fileRefusal file ≡ 0) where
             }
 
 -- ---- the columns
-
--- a slice into which all values are written
-pub column-written : (f : ℕ → ℕ) (n : ℕ) {k : ℕ} {s₀ s : List ℕ} → Filled f 0 k s₀ s → k ≡ n → n ≤ length s₀ → s ≡ written s₀ 0 (row f n)
-column-written f n {k} {s₀} {s} r e h =
-    let filled : Filled f 0 n s₀ s = rw e at r in
-    fill-done filled h ∙ sym (written-front s₀ (row f n) ∙ rw length-row)

@@ -7,10 +7,12 @@ use Rattle.rules.specs.Count.{row}
 use Rattle.rules.specs.Refusal.{refusal, rulesOn}
 use Rattle.rules.specs.Run.{forward}
 use Rattle.rules.proofs.Accepted.{on-admitted}
+use Rattle.rules.proofs.Count.{length-row}
+use Rattle.rules.proofs.Written.{written-long}
 use Rattle.values.proofs.Parallel.{decoded-parallel}
 use Rattle.forward.proofs.Answers.{not-swept, whole-line}
 use Rattle.run.proofs.Answers.{refused-on, short-buffers, short-refused, long-enough, buffers-kept, buffers-written, first-points}
-use Rattle.run.proofs.Compose.{forward-entries, forward-long, run-over}
+use Rattle.run.proofs.Compose.{forward-entries, run-over}
 use native.Mathlib.Omega.{arith}
 use borrow.Author.Needs.{needs}
 use Rattle.run.proofs.run_train.Statement.{statement}
@@ -88,7 +90,7 @@ write-run-requires c κs =
     let a = start (long s) .args in
     let r = room (long s) in
     let e = forward-row s in
-    let same = forward-long _ _ (a .speeds .now) e (r .0) in
+    let same = written-long (a .speeds .now) _ e (rw length-row (r .0)) in
     (on-admitted _ _ (kept s) (decoded-parallel (a .line) (a .train)), ((omega (arith, same, r .0), r .1), forward-entries _ _ (a .speeds .now) e))
 
 same-length-2 : tie.Need-same-length-2

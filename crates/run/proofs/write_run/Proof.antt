@@ -4,8 +4,10 @@ use mathlib.Core.Path.{_≡_}
 use mathlib.Core.List.{List}
 use Rattle.rules.specs.Calls.{written}
 use Rattle.rules.specs.Run.{brakingLoss, runRow}
+use Rattle.rules.proofs.Run.{length-run}
 use Rattle.rules.proofs.Step.{loss-most}
-use Rattle.run.proofs.Compose.{forward-most, sweeps-run, run-long, run-entries}
+use Rattle.rules.proofs.Written.{written-long, written-entries}
+use Rattle.run.proofs.Compose.{forward-most, sweeps-run}
 use native.Mathlib.Omega.{arith}
 use borrow.Author.Needs.{needs}
 use Rattle.run.proofs.write_run.Statement.{statement}
@@ -61,8 +63,9 @@ write-times-requires c κs =
     let swept = c .before .before .before .before in
     let a = start (swept .before .before) in
     let e = run-done swept in
-    let long = run-long _ _ (a .args .speeds .now) e (a .pre .1 .0 .0) in
-    (a .pre .0, ((omega (arith, long, a .pre .1 .0 .0), a .pre .1 .0 .1), run-entries _ _ (a .args .speeds .now) e))
+    let n = length-run (asLine (a .args .line)) (asTrain (a .args .train)) in
+    let long = written-long (a .args .speeds .now) _ e (rw n (a .pre .1 .0 .0)) in
+    (a .pre .0, ((omega (arith, long, a .pre .1 .0 .0), a .pre .1 .0 .1), λ k h. written-entries (a .args .speeds .now) _ e k (rw n h)))
 
 same-length : tie.Need-same-length
 same-length c = search needs

@@ -8,12 +8,13 @@ use Rattle.rules.specs.Text.{startOf, blockOf, runningTime}
 use Rattle.rules.proofs.Accepted.{file-there}
 use Rattle.rules.proofs.File.{part-inside}
 use Rattle.rules.proofs.Fill.{Filled, fill-none, fill-up}
+use Rattle.rules.proofs.Written.{fill-written}
 use Rattle.reading.specs.Decoded.{decodedLine}
 use Rattle.line.proofs.Opening.{file-number, file-trains, file-place, file-line}
 use Rattle.sheet.specs.Values.{asSheet}
 use Rattle.study.specs.Rows.{startAt, blockAt}
 use Rattle.study.proofs.Through.{Through, few-trains, sheet-opened, through-first, next-admitted, next-decodes, next-run, next-answer}
-use Rattle.study.proofs.Through.{through-next, column-written}
+use Rattle.study.proofs.Through.{through-next}
 use borrow.Author.Needs.{needs}
 use Rattle.study.proofs.write_rows_with.Statement.{statement}
 use Rattle.study.proofs.write_rows_with.Tie as tie
@@ -181,9 +182,9 @@ returns c =
     let s = entry (o .before) in
     let count = file-trains _ (s .pre .0 .1) (file-number _ (s .pre .0 .1) ∙ s .pre .0 .0) in
     let all : o .loop .k ≡ trainCount (s .args .file .now) = omega (arith, count, c .if1 .left, o .loop .inv .0 .few) in (
-      column-written _ _ (o .loop .inv .2 .0) all (s .pre .1 .0 .0),
-      column-written _ _ (o .loop .inv .2 .1) all (s .pre .1 .0 .1),
-      column-written _ _ (o .loop .inv .2 .2) all (s .pre .1 .0 .2),
+      fill-written (rw all at (o .loop .inv .2 .0)) (s .pre .1 .0 .0),
+      fill-written (rw all at (o .loop .inv .2 .1)) (s .pre .1 .0 .1),
+      fill-written (rw all at (o .loop .inv .2 .2)) (s .pre .1 .0 .2),
     )
 
 pub write-rows-with-spec : {M : Type 1} → statement M
