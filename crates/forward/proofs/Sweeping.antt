@@ -1,6 +1,7 @@
 -- The forward sweep, one point after the other. Assumes nothing.
 use Prim.Native.Nat.{ℕ, zero, suc, _+_, _≤_, min}
 use mathlib.Core.Bool.{Bool, true, false, cond}
+use mathlib.Core.List.{List}
 use mathlib.Core.Path.{_≡_, refl, _∙_}
 use native.Mathlib.Nat.{le-trans}
 use native.Mathlib.Omega.{arith}
@@ -9,7 +10,18 @@ use Rattle.rules.specs.Run.{squared, lastTop, listed, capSpeed, capOf, cap, tra
 use Rattle.rules.specs.Admitted.{Admitted}
 use Rattle.rules.proofs.Step.{step-mono, step-keeps, squared-most, last-top-most}
 use Rattle.rules.proofs.Cap.{cap-top}
+use Rattle.caps.specs.declared.Course.{Course}
+use Rattle.caps.proofs.Walk.{IsCourse}
+use Rattle.forward.specs.declared.bands.Bands.{Bands}
 use Rattle.forward.specs.Stretch.{Before}
+use Rattle.forward.specs.Traction.{IsBands}
+
+-- these places, limits and bands are those of a train on a line, and the sweep ends on it
+pub record OnCourse (l : Line) (t : Train) (limitsAt limits balisesAt : List ℕ) (c : Course) (b : Bands) (end : ℕ) : Type 0 where
+  pub admitted : Admitted l t
+  pub course : IsCourse l t limitsAt limits balisesAt c
+  pub bands : IsBands l t b
+  pub on-line : end ≤ l .points
 
 pub before-start : (l : Line) (t : Train) → Before l t 0 900000000
 before-start l t = record { at-start = λ e. refl; later = λ j e. absurd (omega arith) }

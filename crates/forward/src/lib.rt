@@ -43,10 +43,14 @@ fn write_forward(line: Line, train: Train, end: usize, speeds: &mut [u32])
     requires { ⌜ (end ≤ line .points) × (end ≤ length (now speeds)) ⌝ }
     ensures { λ _. ⌜ now (speeds .exit) ≡ written (now (speeds .entry)) 0 (row (forward (asLine line) (asTrain train)) end) ⌝ }
 {
-    let limits = limit_places(line);
+    let limits = line.limits;
+    let begun = limit_places(line);
+    let limits_at = begun.at;
     let balises = balise_places(line);
+    let balises_at = balises.at;
+    let stop_points = train.stops;
     let course = Course {
-        limit_count: limits.count,
+        limit_count: begun.count,
         balise_count: balises.count,
         step: line.step,
         length: train.length,
@@ -54,22 +58,21 @@ fn write_forward(line: Line, train: Train, end: usize, speeds: &mut [u32])
     };
     let bands = bands_of(line, train);
     let mut covered = Covered::START;
-    let mut swept = swept_from(first_stop(&train.stops, train.stop_count));
+    let mut swept = swept_from(first_stop(&stop_points, train.stop_count));
     let mut i = 0;
     while i < end {
-        let point = narrow_point(i);
         covered = covered_at(
-            &limits.at,
-            &line.limits,
-            &balises.at,
+            &limits_at,
+            &limits,
+            &balises_at,
             course,
-            point,
+            narrow_point(i),
             covered,
         );
         let next = stretch_end(covered.until, i, end);
         swept = write_stretch(
             bands,
-            &train.stops,
+            &stop_points,
             train.stop_count,
             covered.lowest,
             i,

@@ -67,9 +67,9 @@ written-row f n s = rw length-row at (written-front s (row f n))
 pub row-taken : (f : ℕ → ℕ) (n : ℕ) (s : List ℕ) {after : List ℕ} → after ≡ written s 0 (row f n) → take n after ≡ row f n
 row-taken f n s e = rw (e, written-row f n s) (take-at (row f n) _ n (length-row f n))
 
--- a buffer whose first entries a loop has filled
-pub fill-written : {f : ℕ → ℕ} {n : ℕ} {s₀ s : List ℕ} → Filled f 0 n s₀ s → n ≤ length s₀ → s ≡ written s₀ 0 (row f n)
-fill-written {f} {n} {s₀} r h = fill-done r h ∙ sym (written-row f n s₀)
+-- a buffer whose first entries a loop has filled; k is the loop's count at its end
+pub fill-written : {f : ℕ → ℕ} {k n : ℕ} {s₀ s : List ℕ} → Filled f 0 k s₀ s → k ≡ n → n ≤ length s₀ → s ≡ written s₀ 0 (row f n)
+fill-written {f} {n = n} {s₀} {s} r e h = let filled : Filled f 0 n s₀ s = rw e at r in fill-done filled h ∙ sym (written-row f n s₀)
 
 -- ---- pieces one behind the other
 

@@ -2,7 +2,7 @@
 use Prim.Native.Nat.{ℕ, suc, _+_, _^_, _≤_, _<_}
 use mathlib.Core.List.{List}
 use mathlib.Core.Logic.{⊎-elim}
-use mathlib.Core.Path.{_≡_, sym, ap, _∙_}
+use mathlib.Core.Path.{_≡_, refl, sym, ap, _∙_}
 use native.Mathlib.Numerals.{add-one}
 use native.Mathlib.Omega.{arith}
 use lib.ListN.{length, set}
@@ -47,7 +47,7 @@ module _ (l : Line) (t : Train) (a : Admitted l t) where
   pub arrived-last : {times₀ times : List ℕ} {i : ℕ} {stop : Stop} {time : ℕ} {here : Root} → Arrived l t times₀ i stop time here times →
       l .points ≡ suc i → l .points ≤ length times₀ → set times i time ≡ written times₀ 0 (runTimes l t)
   unfolding arrivals
-  arrived-last r e h = fill-written (fill-up (r .filled) (omega arith) e (omega arith) (r .clock)) h
+  arrived-last r e h = fill-written (fill-up (r .filled) (omega arith) refl (omega arith) (r .clock)) (sym e) h
 
   -- from point i to the next, whose squared speed is w
   module _

@@ -182,9 +182,9 @@ returns c =
     let s = entry (o .before) in
     let count = file-trains _ (s .pre .0 .1) (file-number _ (s .pre .0 .1) ∙ s .pre .0 .0) in
     let all : o .loop .k ≡ trainCount (s .args .file .now) = omega (arith, count, c .if1 .left, o .loop .inv .0 .few) in (
-      fill-written (rw all at (o .loop .inv .2 .0)) (s .pre .1 .0 .0),
-      fill-written (rw all at (o .loop .inv .2 .1)) (s .pre .1 .0 .1),
-      fill-written (rw all at (o .loop .inv .2 .2)) (s .pre .1 .0 .2),
+      fill-written (o .loop .inv .2 .0) all (s .pre .1 .0 .0),
+      fill-written (o .loop .inv .2 .1) all (s .pre .1 .0 .1),
+      fill-written (o .loop .inv .2 .2) all (s .pre .1 .0 .2),
     )
 
 pub write-rows-with-spec : {M : Type 1} → statement M

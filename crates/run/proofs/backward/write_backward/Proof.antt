@@ -1,5 +1,5 @@
 use Prim.Native.Nat.{_-_, _<_}
-use mathlib.Core.Path.{_≡_, sym}
+use mathlib.Core.Path.{_≡_, refl, sym}
 use native.Mathlib.Omega.{arith}
 use Rattle.rules.specs.Count.{entry}
 use Rattle.rules.specs.Run.{backwardSweep}
@@ -82,7 +82,7 @@ returns : tie.Need-returns Inv-loop μ-loop
 returns c =
     let o = c .before .loop in
     let z : o .i ≡ 0 = omega arith in
-    fill-written (rw z at (o .inv .1)) (omega arith)
+    fill-written (rw z at (o .inv .1)) refl (omega arith)
 
 pub write-backward-spec : {M : Type 1} → statement M
 write-backward-spec =
