@@ -37,7 +37,8 @@ fn narrow_point(i: usize) -> u16
     i as u16
 }
 
-// Sweeps over the points before `end`, one stretch after the other.
+// Sweeps over the points before `end`, one stretch after the other. The arrays that the loop reads are copied first: to lend a field of the line or
+// the train would have the whole of it copied.
 fn write_forward(line: Line, train: Train, end: usize, speeds: &mut [u32])
     requires { ⌜ Admitted (asLine line) (asTrain train) ⌝ }
     requires { ⌜ (end ≤ line .points) × (end ≤ length (now speeds)) ⌝ }
