@@ -38,7 +38,7 @@ fn narrow_point(i: usize) -> u16
 }
 
 // Sweeps over the points before `end`, one stretch after the other. The arrays that the loop reads are copied first: to lend a field of the line or
-// the train would have the whole of it copied.
+// the train has the compiler copy most of it.
 fn write_forward(line: Line, train: Train, end: usize, speeds: &mut [u32])
     requires { ⌜ Admitted (asLine line) (asTrain train) ⌝ }
     requires { ⌜ (end ≤ line .points) × (end ≤ length (now speeds)) ⌝ }

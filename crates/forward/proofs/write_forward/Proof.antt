@@ -62,6 +62,7 @@ OfLine c l =
     })
     (begun c .bands-of .result) (a .end)
 
+-- the line that is swept is one
 here : (c : tie.At-loop Inv-loop μ-loop) → OfLine c (asLine (start c .args .line))
 here c =
     let s = start c in
@@ -73,6 +74,7 @@ here c =
       on-line = s .pre .1 .0;
     }
 
+-- a point of the sweep has 16 bits
 near : (c : tie.At-loop Inv-loop μ-loop) → start c .args .end < 65536
 near c = omega (arith, start c .pre .1 .0, start c .pre .0 .rule3Line .points-most)
 
