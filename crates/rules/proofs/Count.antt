@@ -1,7 +1,7 @@
 -- Laws of the tests, choices and rows over the whole numbers below a count. Assumes nothing.
 use Prim.Native.Nat.{ℕ, zero, suc, _+_, _-_, _*_, _/_, _≤_, _<_, min, max}
 use mathlib.Core.Bool.{Bool, true, false, false≢true}
-use mathlib.Core.Logic.{_⊎_, inl, inr, ⊎-elim}
+use mathlib.Core.Logic.{_↔_, _⊎_, inl, inr, ⊎-elim}
 use mathlib.Core.List.{List}
 use mathlib.Core.Option.{none, some}
 use mathlib.Core.Path.{_≡_, refl, sym, subst, ap, ap₂, _∙_}
@@ -14,7 +14,7 @@ use lib.ListN.{length, set, length-set}
 use lib.Seq.{getD-set-same, getD-set-other}
 use borrow.Author.Tests.{leb-true, le-leb}
 use Rattle.rules.specs.Count.{_and_, entry, rowFrom, row, setBelow, every, within, allWithin, belowBy, risesBy, greatestBelow, lowestFrom}
-use Rattle.rules.specs.Count.{orZero, ifPasses, orElse, firstBelow, lastBelow, ceilDiv}
+use Rattle.rules.specs.Count.{orZero, isThere, ifPasses, orElse, firstBelow, lastBelow, ceilDiv}
 use Rattle.rules.specs.Meaning.{IsRoundedUp}
 
 -- what holds of each number below n, and of n, holds of each below n + 1
@@ -75,6 +75,17 @@ and-false false = refl
 pub and-rest : {a b : Bool} → a ≡ true → (a and b) ≡ false → b ≡ false
 unfolding _and_
 and-rest {a} {b} e f = rw e at f
+
+-- two tests that pass together are equal
+pub same-test : (a b : Bool) → (a ≡ true → b ≡ true) → (b ≡ true → a ≡ true) → a ≡ b
+same-test true b f g = sym (f refl)
+same-test false true f g = g refl
+same-test false false f g = refl
+
+-- a test that cannot pass fails
+pub fails : (a : Bool) → (a ≡ true → ⊥) → false ≡ a
+fails true f = absurd (f refl)
+fails false f = refl
 
 pub every-at : (test : ℕ → Bool) (n : ℕ) → every n test ≡ true → (i : ℕ) → i < n → test i ≡ true
 unfolding every
@@ -222,6 +233,20 @@ find-first (suc n) test = go (find-first n test) (test n) refl
     go (inl h) true e = inr (n, record { there = omega arith; passes = e; none-before = h })
     go (inl h) false e = inl (below-suc (λ i. test i ≡ false) n h e)
     go (inr f) x e = inr (f .0, record { there = omega (arith, f .1 .there); passes = f .1 .passes; none-before = f .1 .none-before })
+
+-- the first number that passes, where there is one
+pub first-known : (n : ℕ) (test : ℕ → Bool) → isThere (firstBelow n test) ≡ true → (b : ℕ) × (firstBelow n test ≡ some b) × FirstPasses n test b
+unfolding isThere
+first-known n test e =
+    ⊎-elim (λ fails. absurd (false≢true (ap isThere (sym (first-none n test fails)) ∙ e))) (λ f. (f .0, first-found n test (f .0) (f .1), f .1)) (find-first n test)
+
+-- there is one exactly where some number passes
+pub first-there : (n : ℕ) (test : ℕ → Bool) → (isThere (firstBelow n test) ≡ true) ↔ ((i : ℕ) × (i < n) × (test i ≡ true))
+unfolding isThere
+first-there n test = (
+  λ e. let (b, known, f) = first-known n test e in (b, f .there, f .passes),
+  λ s. ⊎-elim (λ fails. absurd (false≢true (sym (fails (s .0) (s .1)) ∙ s .2))) (λ f. ap isThere (first-found n test (f .0) (f .1))) (find-first n test),
+)
 
 pub first-agree : (n : ℕ) (f g : ℕ → Bool) → ((i : ℕ) → i < n → f i ≡ g i) → firstBelow n f ≡ firstBelow n g
 unfolding firstBelow

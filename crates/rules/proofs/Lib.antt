@@ -28,3 +28,4 @@ pub mod Answers
 pub mod Room
 pub mod Diagram
 pub mod Period
+pub mod Path

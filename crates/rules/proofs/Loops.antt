@@ -1,6 +1,6 @@
 -- Tests, rows and the entries of a list one number more, as loops go through them. Assumes nothing.
 use Prim.Native.Nat.{ℕ, zero, suc, _+_, _-_, _≤_, _<_, max}
-use mathlib.Core.Bool.{Bool, true, false}
+use mathlib.Core.Bool.{Bool, true, false, not}
 use mathlib.Core.Logic.{⊎-elim}
 use mathlib.Core.List.{List}
 use mathlib.Core.Path.{_≡_, refl, sym, subst, ap, ap₂, _∙_}
@@ -9,13 +9,20 @@ use native.Mathlib.Numerals.{add-one}
 use native.Mathlib.Omega.{arith}
 use lib.Dec.{leb}
 use lib.ListN.{length, set}
-use borrow.Author.Tests.{le-leb, lt-leb}
+use borrow.Author.Tests.{le-leb, lt-leb, not-true, not-false}
 use Rattle.rules.specs.Count.{_and_, entry, rowFrom, row, setBelow, greatestBelow, every, within, allWithin, belowBy, risesBy}
 use Rattle.rules.proofs.Count.{NonePasses, and-false, every-agree, length-row, entry-row}
 
 -- two tests that the code holds as x and y
 pub and-of : {r x y a b : Bool} → r ≡ (x and y) → x ≡ a → y ≡ b → r ≡ (a and b)
 and-of e f g = e ∙ ap₂ _and_ f g
+
+-- a branch on a call that answers a test: where `!r` is false the test passes, and where it is true the test fails
+pub passed : {r test : Bool} → r ≡ test → not r ≡ false → test ≡ true
+passed {r} e h = sym e ∙ not-false r h
+
+pub failed : {r test : Bool} → r ≡ test → not r ≡ true → test ≡ false
+failed {r} e h = sym e ∙ not-true r h
 
 -- what holds of the counter at the loop's end holds of the count
 at-end : (P : ℕ → Type 0) {i n : ℕ} → i ≤ n → n ≤ i → P i → P n

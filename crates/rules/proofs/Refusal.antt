@@ -73,12 +73,16 @@ module _ (n : ℕ) (b : Bool) (rs : List Rule) where
   pub head-kept : b ≡ true → refusal (rule n b ∷ rs) ≡ refusal rs
   head-kept e = refusal-cons n b rs ∙ rw e
 
-  pub head-accepted : 0 < n → refusal (rule n b ∷ rs) ≡ 0 → (b ≡ true) × (refusal rs ≡ 0)
-  head-accepted p z = go b (sym (refusal-cons n b rs) ∙ z)
+  -- a number that is not its own
+  pub head-passed : {m : ℕ} → (n ≡ m → ⊥) → refusal (rule n b ∷ rs) ≡ m → (b ≡ true) × (refusal rs ≡ m)
+  head-passed {m} other z = go b (sym (refusal-cons n b rs) ∙ z)
     where
-      go : (c : Bool) → cond c (refusal rs) n ≡ 0 → (c ≡ true) × (refusal rs ≡ 0)
+      go : (c : Bool) → cond c (refusal rs) n ≡ m → (c ≡ true) × (refusal rs ≡ m)
       go true e = (refl, e)
-      go false e = absurd (omega arith)
+      go false e = absurd (other e)
+
+  pub head-accepted : 0 < n → refusal (rule n b ∷ rs) ≡ 0 → (b ≡ true) × (refusal rs ≡ 0)
+  head-accepted p z = head-passed (λ e. omega arith) z
 
   -- the number that the code holds: n where the test that it holds fails, else what the later rules give
   pub kept-of : {r later : ℕ} {kept : Bool} → r ≡ cond kept later n → kept ≡ b → later ≡ refusal rs → r ≡ refusal (rule n b ∷ rs)

@@ -70,6 +70,11 @@ abbrev pub orZero : Option ℕ → ℕ
 orZero none = 0
 orZero (some n) = n
 
+-- there is a number
+unfoldable pub isThere : Option ℕ → Bool
+isThere none = false
+isThere (some n) = true
+
 -- a place counted from 1, and 0 where there is none
 abbrev pub countedFrom1 : Option ℕ → ℕ
 countedFrom1 none = 0

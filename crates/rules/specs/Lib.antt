@@ -16,3 +16,4 @@ pub mod Text
 pub mod Meaning
 pub mod Diagram
 pub mod Period
+pub mod Path
