@@ -11,7 +11,7 @@ const MOST_BLOCKS: u64 = 32;
 const MOST_TRAINS: u64 = 64;
 
 // 2^44 microseconds.
-const LATEST_END: u64 = 17592186044416;
+pub const LATEST_END: u64 = 17592186044416;
 
 // The first n times are at most the bound.
 fn all_at_most(n: usize, times: &[u64; 32], bound: u64) -> bool

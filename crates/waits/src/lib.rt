@@ -3,6 +3,7 @@ mod block;
 mod wait;
 
 pub use block::block_named;
+pub use wait::later;
 pub use wait::longest_wait;
 ghost use mathlib.Core.Path.{_≡_};
 ghost use Prim.Native.Nat.{min};

@@ -4,17 +4,15 @@ ghost use mathlib.Core.Path.{_≡_};
 ghost use Prim.Native.Nat.{_-_, min, max};
 ghost use Rattle.rules.specs.Count.{entry, greatestBelow};
 
-// The wait for one block.
-fn wait(free: u64, begin: u64) -> u64
-    ensures { λ r. ⌜ r ≡ free - begin ⌝ }
+// The later of a start and the least one at which a block is free.
+pub fn later(start: u64, free: u64, begin: u64) -> u64
+    ensures { λ r. ⌜ r ≡ max start (free - begin) ⌝ }
 {
-    if begin < free { free - begin } else { 0 }
-}
-
-fn greater(a: u64, b: u64) -> u64
-    ensures { λ r. ⌜ r ≡ max a b ⌝ }
-{
-    if a < b { b } else { a }
+    if free <= begin {
+        return start;
+    }
+    let wait = free - begin;
+    if start < wait { wait } else { start }
 }
 
 // The greatest, over the first blocks, of free time less beginning.
@@ -25,7 +23,7 @@ pub fn longest_wait<'a>(blocks: usize, free: &'a [u64; 32], begins: &'a [u64; 32
     let mut longest = 0;
     let mut b = 0;
     while b < count {
-        longest = greater(longest, wait(free[b], begins[b]));
+        longest = later(longest, free[b], begins[b]);
         b += 1;
     }
     longest

@@ -4,7 +4,7 @@ use borrow.Author.Needs.{needs}
 use Rattle.rules.specs.Demand.{ThirdDemand}
 use Rattle.rules.specs.Calls.{opened}
 use Rattle.rules.proofs.Demand.{opened-fresh, opened-refused, opened-demand}
-use Rattle.sheet_judging.proofs.Tests.{passed, failed}
+use Rattle.rules.proofs.Loops.{passed, failed}
 use Rattle.sheet.proofs.open_sheet.Statement.{statement}
 use Rattle.sheet.proofs.open_sheet.Tie as tie
 

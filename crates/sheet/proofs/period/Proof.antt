@@ -11,7 +11,7 @@ use Rattle.rules.specs.Sheet.{Sheet, freeTime, firstBegin}
 use Rattle.rules.proofs.Period.{period-greatest, period-most, period-number, answer-told}
 use Rattle.rules.proofs.Sheet.{rule-12}
 use Rattle.sheet.specs.Values.{asSheet}
-use Rattle.sheet_judging.proofs.Tests.{passed, failed}
+use Rattle.rules.proofs.Loops.{passed, failed}
 use Rattle.sheet.proofs.period.Statement.{statement}
 use Rattle.sheet.proofs.period.Tie as tie
 

@@ -9,7 +9,7 @@ use Rattle.rules.specs.Refusal.{rule, refusal, sheetRule, holdRule, addingRules
 use Rattle.rules.specs.Sheet.{Sheet}
 use Rattle.rules.proofs.Refusal.{refusal-none, head-broken, head-kept}
 use Rattle.rules.proofs.Sheet.{rule-12}
-use Rattle.sheet_judging.proofs.Tests.{passed, failed}
+use Rattle.rules.proofs.Loops.{passed, failed}
 use Rattle.sheet_judging.proofs.adding_refusal.Statement.{statement}
 use Rattle.sheet_judging.proofs.adding_refusal.Tie as tie
 

@@ -9,7 +9,7 @@ use Rattle.rules.specs.Count.{_and_, every}
 use Rattle.rules.specs.Hold.{Hold}
 use Rattle.rules.specs.Refusal.{holdRule}
 use Rattle.rules.specs.Sheet.{begin, end}
-use Rattle.sheet_judging.proofs.Tests.{passed, failed}
+use Rattle.rules.proofs.Loops.{passed, failed}
 use Rattle.sheet_judging.proofs.hold_kept.Statement.{statement}
 use Rattle.sheet_judging.proofs.hold_kept.Tie as tie
 

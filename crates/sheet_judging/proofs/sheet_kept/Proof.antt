@@ -9,7 +9,7 @@ use Rattle.rules.specs.Count.{_and_, every}
 use Rattle.rules.specs.Refusal.{countRule, sheetRule}
 use Rattle.rules.specs.Sheet.{Sheet, freeTime, firstBegin}
 use Rattle.rules.proofs.Count.{within-means}
-use Rattle.sheet_judging.proofs.Tests.{passed, failed}
+use Rattle.rules.proofs.Loops.{passed, failed}
 use Rattle.sheet_judging.proofs.sheet_kept.Statement.{statement}
 use Rattle.sheet_judging.proofs.sheet_kept.Tie as tie
 

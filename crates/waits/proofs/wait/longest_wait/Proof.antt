@@ -1,6 +1,6 @@
 -- `longest_wait`: at the loop's test it is the greatest wait of the first b blocks. Assumes nothing.
 use Prim.Native.Nat.{_≤_, _-_}
-use mathlib.Core.Path.{_≡_}
+use mathlib.Core.Path.{_≡_, refl}
 use native.Mathlib.Nat.{min-le-right}
 use native.Mathlib.Omega.{arith}
 use borrow.Author.Needs.{needs}
@@ -21,23 +21,20 @@ places-requires c κs = search needs
 loop-holds : tie.Need-loop-holds Inv-loop μ-loop
 loop-holds c = (rw (c .places .ensures) (min-le-right _ 32), search needs, greatest-none _)
 
-mul-wait : tie.Need-mul-wait Inv-loop μ-loop
-mul-wait c = search needs
+mul-later : tie.Need-mul-later Inv-loop μ-loop
+mul-later c = search needs
 
-element-copy-out-wait : tie.Need-element-copy-out-wait Inv-loop μ-loop
-element-copy-out-wait c = search needs
+element-copy-out-later : tie.Need-element-copy-out-later Inv-loop μ-loop
+element-copy-out-later c = search needs
 
-mul-wait-2 : tie.Need-mul-wait-2 Inv-loop μ-loop
-mul-wait-2 c = search needs
+mul-later-2 : tie.Need-mul-later-2 Inv-loop μ-loop
+mul-later-2 c = search needs
 
-element-copy-out-wait-2 : tie.Need-element-copy-out-wait-2 Inv-loop μ-loop
-element-copy-out-wait-2 c = search needs
+element-copy-out-later-2 : tie.Need-element-copy-out-later-2 Inv-loop μ-loop
+element-copy-out-later-2 c = search needs
 
-wait-requires : tie.Need-wait-requires Inv-loop μ-loop
-wait-requires c κs = search needs
-
-greater-requires : tie.Need-greater-requires Inv-loop μ-loop
-greater-requires c κs = search needs
+later-requires : tie.Need-later-requires Inv-loop μ-loop
+later-requires c κs = search needs
 
 add-b : tie.Need-add-b Inv-loop μ-loop
 add-b c = search needs
@@ -47,8 +44,8 @@ loop-less c = search needs
 
 loop-again : tie.Need-loop-again Inv-loop μ-loop
 loop-again c =
-    let s = c .before .before .before .before .before in
-    (s .loop .inv .0, search needs, greatest-more _ _ (s .loop .inv .2) (c .before .wait .ensures) (c .greater .ensures))
+    let s = c .before .before .before .before in
+    (s .loop .inv .0, search needs, greatest-more _ _ (s .loop .inv .2) refl (c .later .ensures))
 
 returns : tie.Need-returns Inv-loop μ-loop
 returns c =
@@ -63,12 +60,11 @@ longest-wait-spec =
     μ-loop
     places-requires
     loop-holds
-    mul-wait
-    element-copy-out-wait
-    mul-wait-2
-    element-copy-out-wait-2
-    wait-requires
-    greater-requires
+    mul-later
+    element-copy-out-later
+    mul-later-2
+    element-copy-out-later-2
+    later-requires
     add-b
     loop-less
     loop-again
