@@ -28,6 +28,10 @@
  *       has trains and a first beginning that is not below the block's free time
  *   13  the sheet has 64 trains
  *   14  the hold record has another block count than the sheet, a hold that is empty, or an end above 2^44
+ *   16  the slices of placed trains do not hold one row for each start, or there are more than 64 rows, a start or an end
+ *       of the window is above 2^50, a row breaks 14, the rows overlap or are out of order, or the window ends before it
+ *       begins
+ *   17  no start in the window has a place among the placed trains
  */
 #ifndef VELLUMRILL_H
 #define VELLUMRILL_H
@@ -40,7 +44,7 @@ extern "C" {
 #endif
 
 /* Raised whenever a call, a struct or the meaning of a figure changes. */
-#define VR_VERSION 5
+#define VR_VERSION 6
 
 /* The numbers by name. */
 enum {
@@ -59,11 +63,16 @@ enum {
     VR_REFUSED_SHEET = 12,
     VR_REFUSED_SHEET_FULL = 13,
     VR_REFUSED_HOLD_RECORD = 14,
-    VR_REFUSED_BALISES = 15
+    VR_REFUSED_BALISES = 15,
+    VR_REFUSED_PLACED_ROWS = 16,
+    VR_REFUSED_NO_PATH = 17
 };
 
 /* The most that an accepted file has of each, and the most bytes of the text of its sheet. */
 enum { VR_MOST_POINTS = 4096, VR_MOST_TRAINS = 64, VR_MOST_BLOCKS = 32, VR_MOST_TEXT = 2390 };
+
+/* The latest start that a window of starts or a placed train may have, 2^50 microseconds. */
+#define VR_LATEST_START (UINT64_C(1) << 50)
 
 /* The bytes of a point in the diagram, where its dot stands among them, and the most bytes of a diagram. */
 enum { VR_POINT_SIZE = 25, VR_POINT_DOT = 24, VR_MOST_DIAGRAM = VR_MOST_POINTS * VR_POINT_SIZE };
@@ -120,6 +129,13 @@ typedef struct vr_period_answer {
     uint64_t period;
     uint64_t percent;
 } vr_period_answer;
+
+/* How many placed trains come before the new one. */
+typedef struct vr_path_answer {
+    uint64_t number;
+    uint64_t start;
+    uint64_t before;
+} vr_path_answer;
 
 typedef struct vr_rows_answer {
     uint64_t number;
@@ -199,6 +215,18 @@ vr_headway_answer vr_headway(const vr_hold_record *first, const vr_hold_record *
  * has trains, then no two holds of one block overlap, however often it is repeated with this period; with one microsecond
  * less some two would, from two repetitions on. Writes nothing. */
 vr_period_answer vr_period(const vr_sheet *sheet);
+
+/* A path for one more train between those already placed.
+ * `starts` has the start of each placed train, in running order. `begins` and `ends` have a row for each of them, one after
+ * the other: as many entries as the new hold has blocks, the beginnings and the ends of that train's holds from its start on,
+ * as vr_hold gives them. Starts need not rise: the order is that of the holds in the blocks.
+ * Returns the number 0, the least start from `low` to `high`, both included, that has a place in the order, and how many
+ * trains are before that place: in every block the new hold comes after all trains before it and before all others. Holds may
+ * touch. With the new train put in at its place no two trains overlap in a block; no smaller start in the window has any
+ * place, and this one has no other. Or the number of refusal by rules 12, 14, 16 and 17 with start 0 and before 0; 17 if
+ * and only if no start in the window will do. 64 trains may be placed; if there are none, the start is `low`. Writes nothing. */
+vr_path_answer vr_path(const vr_hold_record *hold, const uint64_t *starts, size_t n, const uint64_t *begins, size_t nb,
+                       const uint64_t *ends, size_t ne, uint64_t low, uint64_t high);
 
 /* The sheet of a whole file: all its trains, added in the file's order to a fresh sheet.
  * Returns the number 0 and the count of trains T; or the number of refusal by the file's rules, then 11 where one of

@@ -2,6 +2,7 @@
 use hold::HoldAnswer;
 use holds::HoldRecord;
 use line::RecordPlace;
+use path::PathAnswer;
 use sheet::PeriodAnswer;
 use sheet::Sheet;
 use sheet_answers::Added;
@@ -20,12 +21,15 @@ ghost use Rattle.rules.specs.Demand.{ThirdDemand};
 ghost use Rattle.rules.specs.Diagram.{diagramBytes, diagramRefusal, diagramAfter, CarriesRun};
 ghost use Rattle.rules.specs.File.{pointCount, trainCount};
 ghost use Rattle.rules.specs.Line.{lineOf, trainOf};
+ghost use Rattle.rules.specs.Path.{pathAnswer, RightPath};
 ghost use Rattle.rules.specs.Period.{periodAnswer, HourPattern};
 ghost use Rattle.rules.specs.Text.{sheetText};
 ghost use Rattle.rules.specs.Time.{FastestRun};
 ghost use Rattle.hold.specs.Calls.{asHoldAnswer};
 ghost use Rattle.holds.specs.Values.{asHold};
 ghost use Rattle.line.specs.Answers.{asRecordPlace};
+ghost use Rattle.path.specs.Values.{asPathAnswer};
+ghost use Rattle.path_judging.specs.Rows.{placedRows};
 ghost use Rattle.sheet.specs.Values.{asSheet, asPeriodAnswer};
 ghost use Rattle.study.specs.Rows.{startsOf, runsOf, blocksOf, rowsRefusal, rowsAnswer, LeastForFile};
 ghost use Rattle.study_text.specs.Study.{studyRefusal};
@@ -154,6 +158,27 @@ pub extern "C" fn vr_period(sheet: &Sheet) -> PeriodAnswer
 {
     let present = *sheet;
     sheet::period(present)
+}
+
+// The least start from `low` to `high` that has a place among the placed rows, of which each has an entry of `starts` and, in `begins` and `ends`, as
+// many entries as the hold record has blocks: rules 12, 14, 16 and 17, whatever the record and the slices hold.
+#[no_mangle]
+pub extern "C" fn vr_path(
+    hold: &HoldRecord,
+    starts: &[u64],
+    begins: &[u64],
+    ends: &[u64],
+    low: u64,
+    high: u64,
+) -> PathAnswer
+    ensures answer { λ r. ⌜
+        asPathAnswer r
+        ≡ pathAnswer (asHold (now (hold .entry))) (placedRows (now (starts .entry)) (now (begins .entry)) (now (ends .entry))) low high ⌝ }
+    ensures path { λ r. ⌜
+        RightPath (asHold (now (hold .entry))) (placedRows (now (starts .entry)) (now (begins .entry)) (now (ends .entry))) low high (asPathAnswer r) ⌝ }
+{
+    let record = *hold;
+    path::path(record, starts, begins, ends, low, high)
 }
 
 // The start, the running time and the block of each train of a file: the file's rules, then 11 where a slice has fewer places than the file has
