@@ -57,6 +57,13 @@ pub struct PeriodAnswer {
     percent: u64,
 }
 
+#[repr(C)]
+pub struct PathAnswer {
+    number: u64,
+    start: u64,
+    before: u64,
+}
+
 /// What is lent; a pointer with length 0 may be null.
 unsafe fn lent<'a, T>(at: *const T, len: usize) -> &'a [T] {
     if len == 0 { &[] } else { slice::from_raw_parts(at, len) }
@@ -155,4 +162,12 @@ pub extern "C" fn vr_headway(first: &HoldRecord, second: &HoldRecord) -> Headway
 pub extern "C" fn vr_period(sheet: &Sheet) -> PeriodAnswer {
     let (number, (period, percent)) = split(sheet.period());
     PeriodAnswer { number, period, percent }
+}
+
+#[no_mangle]
+pub unsafe extern "C" fn vr_path(
+    hold: &HoldRecord, starts: *const u64, n: usize, begins: *const u64, nb: usize, ends: *const u64, ne: usize, low: u64, high: u64,
+) -> PathAnswer {
+    let (number, (start, before)) = split(plain::path(hold, lent(starts, n), lent(begins, nb), lent(ends, ne), low, high));
+    PathAnswer { number, start, before }
 }

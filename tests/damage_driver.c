@@ -199,6 +199,27 @@ static vr_hold_record *ask_hold(struct question *asked)
     return hold;
 }
 
+enum { PLACED = 3 };
+
+/* The train once more among three placed ones, of which the last two leave just room for it. The slices are exactly sized. */
+static void ask_path(const vr_hold_record *hold, uint64_t headway, size_t missing, uint64_t high)
+{
+    size_t entries = PLACED * hold->blocks, size = sizeof(uint64_t);
+    size_t ends_length = entries > missing ? entries - missing : 0;
+    uint64_t *starts = filled(PLACED * size), *begins = filled(entries * size), *ends = filled(ends_length * size);
+    for (size_t t = 0; t < PLACED; t++)
+        starts[t] = (t < 2 ? t : 3) * headway;
+    for (size_t i = 0; i < entries; i++)
+        begins[i] = hold->begins[i % hold->blocks];
+    for (size_t i = 0; i < ends_length; i++)
+        ends[i] = hold->ends[(i + missing) % hold->blocks];
+    vr_path_answer answer = vr_path(hold, starts, PLACED, begins, entries, ends, ends_length, 0, high);
+    printf("path %" PRIu64 " %" PRIu64 " %" PRIu64 "\n", answer.number, answer.start, answer.before);
+    free(starts);
+    free(begins);
+    free(ends);
+}
+
 static void ask_sheet(const vr_hold_record *hold)
 {
     vr_sheet *sheet = filled(sizeof *sheet);
@@ -220,6 +241,10 @@ static void ask_sheet(const vr_hold_record *hold)
     }
     vr_headway_answer headway = vr_headway(hold, hold);
     printf("headway %" PRIu64 " %" PRIu64 "\n", headway.number, headway.headway);
+    ask_path(hold, headway.headway, 0, 2 * headway.headway);
+    ask_path(hold, headway.headway, 0, 2 * headway.headway - (headway.headway > 0));
+    ask_path(hold, headway.headway, 0, VR_LATEST_START);
+    ask_path(hold, headway.headway, 1, VR_LATEST_START);
     free(sheet);
 }
 

@@ -60,6 +60,10 @@ class PeriodAnswer(Structure):
     _fields_ = [("number", c_uint64), ("period", c_uint64), ("percent", c_uint64)]
 
 
+class PathAnswer(Structure):
+    _fields_ = [("number", c_uint64), ("start", c_uint64), ("before", c_uint64)]
+
+
 FILE = [POINTER(c_uint8), c_size_t]
 BUFFERS = [POINTER(c_uint32), c_size_t, POINTER(c_uint64), c_size_t]
 CALLS = {
@@ -73,6 +77,7 @@ CALLS = {
     "vr_add": (Added, [POINTER(Sheet), POINTER(HoldRecord)]),
     "vr_headway": (HeadwayAnswer, [POINTER(HoldRecord), POINTER(HoldRecord)]),
     "vr_period": (PeriodAnswer, [POINTER(Sheet)]),
+    "vr_path": (PathAnswer, [POINTER(HoldRecord)] + 3 * [POINTER(c_uint64), c_size_t] + 2 * [c_uint64]),
     "vr_rows": (RowsAnswer, FILE + 3 * [POINTER(c_uint64), c_size_t]),
     "vr_study": (Written, FILE + [POINTER(c_uint8), c_size_t]),
     "vr_diagram": (Written, FILE + [c_uint64, POINTER(c_uint8), c_size_t]),
@@ -214,6 +219,15 @@ class Library:
         answer = self.period_in_c(sheet)
         untouched("sheet", bytes(sheet) == before)
         return answer.number, answer.period, answer.percent
+
+    def path(self, hold, starts, begins, ends, low, high):
+        """The number, the start and the trains before it. A slice without entries is lent as a null pointer."""
+        before, slices = bytes(hold), [starts, begins, ends]
+        lent = [(c_uint64 * len(entries))(*entries) if entries else None for entries in slices]
+        answer = self.path_in_c(hold, *[word for entries, place in zip(slices, lent) for word in (place, len(entries))], low, high)
+        untouched("hold record", bytes(hold) == before)
+        untouched("rows", all(list(place or []) == entries for entries, place in zip(slices, lent)))
+        return answer.number, answer.start, answer.before
 
 
 class Lent:

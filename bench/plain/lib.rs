@@ -3,6 +3,7 @@
 mod diagram;
 mod hold;
 pub mod line;
+mod path;
 mod run;
 mod sheet;
 mod study;
@@ -10,6 +11,7 @@ mod study;
 pub use diagram::diagram;
 pub use hold::hold;
 pub use line::{check_file, check_train, train_record};
+pub use path::path;
 pub use run::run;
 pub use sheet::{headway, HoldRecord, Sheet};
 pub use study::{rows, sizes, study, Sizes};
