@@ -78,11 +78,14 @@ module _ (n : ℕ) (p : PlacedRows) (begins-rows : length (p .begins) ≡ length
   row-at : (k : ℕ) → k < m → getD hs k emptyHold ≡ record { blocks = n; begins = rowOf n k (p .begins); ends = rowOf n k (p .ends) }
   row-at k l = hold-at n m k (k * n) (p .begins) (p .ends) refl l
 
+  entry-at : (entries : List ℕ) (k b : ℕ) → b < n → entry (rowOf n k entries) b ≡ entry entries (k * n + b)
+  entry-at entries k b c = getD-take n (drop (k * n) entries) b 0 c ∙ getD-drop (k * n) entries b 0
+
   begin-at : (k b : ℕ) → k < m → b < n → begin (getD hs k emptyHold) b ≡ entry (p .begins) (k * n + b)
-  begin-at k b l c = ap (λ (h : Hold). begin h b) (row-at k l) ∙ getD-take n (drop (k * n) (p .begins)) b 0 c ∙ getD-drop (k * n) (p .begins) b 0
+  begin-at k b l c = ap (λ (h : Hold). begin h b) (row-at k l) ∙ entry-at (p .begins) k b c
 
   end-at : (k b : ℕ) → k < m → b < n → end (getD hs k emptyHold) b ≡ entry (p .ends) (k * n + b)
-  end-at k b l c = ap (λ (h : Hold). end h b) (row-at k l) ∙ getD-take n (drop (k * n) (p .ends)) b 0 c ∙ getD-drop (k * n) (p .ends) b 0
+  end-at k b l c = ap (λ (h : Hold). end h b) (row-at k l) ∙ entry-at (p .ends) k b c
 
   -- an entry of a row is within the slices
   within : (k b : ℕ) → k < m → b < n → k * n + b < length (p .ends)

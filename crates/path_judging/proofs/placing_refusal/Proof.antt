@@ -18,7 +18,7 @@ use Rattle.path_judging.proofs.placing_refusal.Tie as tie
 few-blocks : (h : Hold) {r : ℕ} → r ≡ refusal (newHoldRules h) → r ≡ 0 → h .blocks ≤ 32
 few-blocks h e z = within-means 1 32 (h .blocks) (head-accepted 12 _ _ (omega arith) (sym e ∙ z) .0) .1
 
--- the number of the first broken rule, and 0 past all three; r is what the code holds of rules 12 and 14, w and q what it holds of 16
+-- the number of the first broken rule, and 0 past all three; r is what the code holds of rules 12 and 14
 module _ (h : Hold) (p : PlacedRows) (low high : ℕ) {r : ℕ} (e : r ≡ refusal (newHoldRules h)) where
   breaks-12-14 : (r ≡ 0 → ⊥) → r ≡ refusal (placingRules h p low high)
   breaks-12-14 n = e ∙ sym (append-refused (newHoldRules h) _ (omega arith, (omega arith, tt)) (λ z. n (e ∙ z)))
