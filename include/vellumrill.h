@@ -44,7 +44,7 @@ extern "C" {
 #endif
 
 /* Raised whenever a call, a struct or the meaning of a figure changes. */
-#define VR_VERSION 6
+#define VR_VERSION 7
 
 /* The numbers by name. */
 enum {
@@ -197,10 +197,10 @@ vr_written vr_diagram(const uint8_t *file, size_t len, uint64_t k, uint8_t *byte
 uint64_t vr_open(uint64_t blocks, vr_sheet *sheet);
 
 /* Adds a train to a sheet.
- * Returns the number 0, the least start, and the first block that binds it, counted from 1, or block 0 if the start is
- * 0; or the number of refusal by rules 12 to 14 with start 0 and block 0. Writes to the sheet that the train is there
- * and when each block is free again, and of the first train its beginnings; places beyond the block count are kept. A
- * refusal leaves the sheet as it was. */
+ * Returns the number 0, the least start, and the block named, counted from 1: the last where start plus beginning is the
+ * free time before the addition, or 0 if the start is 0; or the number of refusal by rules 12 to 14 with start 0 and block
+ * 0. Writes to the sheet that the train is there and when each block is free again, and of the first train its beginnings;
+ * places beyond the block count are kept. A refusal leaves the sheet as it was. */
 vr_added vr_add(vr_sheet *sheet, const vr_hold_record *hold);
 
 /* The headway of two trains: the second's start on a sheet of these two. The two pointers may be the same.
@@ -231,7 +231,7 @@ vr_path_answer vr_path(const vr_hold_record *hold, const uint64_t *starts, size_
 /* The sheet of a whole file: all its trains, added in the file's order to a fresh sheet.
  * Returns the number 0 and the count of trains T; or the number of refusal by the file's rules, then 11 where one of
  * the three has fewer than T entries, and 0 trains. Writes to the first T entries of `starts`, `runs` and `blocks`
- * each train's start, its running time and the block that binds it, as vr_add and vr_run give them; entries from T on
+ * each train's start, its running time and the block named, as vr_add and vr_run give them; entries from T on
  * are kept. No two trains overlap in a block, and none could start sooner in that order. VR_MOST_TRAINS entries are
  * enough for every file. A refusal keeps every entry. */
 vr_rows_answer vr_rows(const uint8_t *file, size_t len, uint64_t *starts, size_t n1, uint64_t *runs, size_t n2,

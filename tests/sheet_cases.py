@@ -70,9 +70,13 @@ class Calls:
     def add(self, hold):
         self.numbers.append(ADD)
         self.record(hold)
+        free = list(self.sheet.free)
         try:
-            answer = "accepted %d %d" % add_call(self.sheet, hold)
+            start, block = add_call(self.sheet, hold)
+            answer = "accepted %d %d" % (start, block)
             self.count("accepted")
+            if start > 0 and sum(start + hold.begins[b] == free[b] for b in range(hold.count)) > 1:
+                self.count("accepted, with a tie")
         except Refused as refusal:
             answer = "refused %d" % refusal.number
             self.count(answer)
@@ -164,6 +168,20 @@ def longest(rng, n):
     return Hold(n, beyond(rng, [0] * n), beyond(rng, [LATEST] * n))
 
 
+def alike(rng, n):
+    """A train that holds n equal blocks equally long, each as much later than the one before."""
+    begin, later, length = rng.randrange(100 * SECOND), rng.randrange(120 * SECOND), rng.randrange(1, 200 * SECOND)
+    begins = [begin + b * later for b in range(n)]
+    return Hold(n, beyond(rng, begins), beyond(rng, [begin + length for begin in begins]))
+
+
+def tied(rng, n, blocks):
+    """Two trains, of which the second waits equally long for each of these blocks and less for the others."""
+    second, wait = train(rng, n), rng.randrange(2, 120 * SECOND)
+    ends = [second.begins[b] + wait - (0 if b in blocks else rng.choice([1, rng.randrange(1, wait)])) for b in range(n)]
+    return [Hold(n, beyond(rng, [0] * n), beyond(rng, ends)), second]
+
+
 def any_hold(rng, n):
     return rng.choice([train, train, tiny, large])(rng, n)
 
@@ -232,7 +250,7 @@ def latest_ends(calls, rng):
     beyond_full(calls, rng, (1, 3, 32), longest)
 
 
-def ties(calls, rng):
+def small_times(calls, rng):
     beyond_full(calls, rng, range(2, 9), tiny)
 
 
@@ -392,8 +410,32 @@ def headways(calls, rng):
         calls.headway(Hold(count, [1] * PLACES, [1] * PLACES), Hold(count, [0] * PLACES, [1] * PLACES))
 
 
-PARTS = [every_count, seventy_in_a_row, latest_ends, ties, one_record_again, wrong_openings, sample, wrong_counts, wrong_trains,
-         wrong_free_times, wrong_beginnings, sound_sheets, without_trains, percentages, headways]
+# ---- starts that several blocks fix equally
+
+def ties(calls, rng):
+    """All blocks, the first and the last, one of these, and any: with the same record again, and between two records."""
+    for n in range(1, PLACES + 1):
+        for blocks in (range(n), {0, n - 1}, {0}, {n - 1}, {0, n // 2}, rng.sample(range(n), rng.randint(1, n))):
+            calls.open(n)
+            for hold in tied(rng, n, blocks):
+                calls.add(hold)
+        calls.open(n)
+        hold = alike(rng, n)
+        for _ in range(4):
+            calls.add(hold)
+
+
+def ties_beyond(calls, rng):
+    """Places beyond the block count that would fix the start as well, and starts at 0 that every block fixes."""
+    for n in range(1, PLACES + 1):
+        begins = [rng.randrange(1, LATEST // 2) for _ in range(PLACES)]
+        for start in (rng.randrange(1, LATEST // 2), 1, 0):
+            calls.forge(n, rng.randrange(1, 64), [start + begin for begin in begins], [0] * PLACES)
+            calls.add(Hold(n, begins, [begin + 1 for begin in begins]))
+
+
+PARTS = [every_count, seventy_in_a_row, latest_ends, small_times, one_record_again, wrong_openings, sample, wrong_counts, wrong_trains,
+         wrong_free_times, wrong_beginnings, sound_sheets, without_trains, percentages, headways, ties, ties_beyond]
 
 
 def main():

@@ -23,7 +23,7 @@ import sys
 
 sys.dont_write_bytecode = True
 
-from line_cases import a_line, changed, kept  # noqa: E402
+from line_cases import a_line, changed, kept, pick  # noqa: E402
 from packed import PackedFiles  # noqa: E402
 from run_cases import broken_lines, checksum, quick_train, some_line  # noqa: E402
 from yardstick import HEADER_LINE, Line, Train, accepted_line, number_of, program, sample_line, write_line  # noqa: E402
@@ -110,6 +110,18 @@ def late_starts(cases, rng):
     cases.line(kept(Line(4096, 100, 65535, 65535, [0], [1], [0], [4085], [train] * 64)), every_length=True)
 
 
+def equal_blocks(cases, rng):
+    """Trains that pass equal blocks at one speed, equal ones among them, so that several blocks fix a start equally."""
+    for count in (2, 3, 8, 31, 32):
+        for cells in (1, 2, 5):
+            ends = [cells * (b + 1) for b in range(count)]
+            kinds = [Train(rng.randrange(3), pick(rng, 1, 100), [rng.randint(10, 100)], [pick(rng, 1, 200)], [], []) for _ in range(2)]
+            for trains in (kinds[:1] * 2, kinds[:1] * 6, kinds * 3, kinds[:1] * 3 + kinds[1:] * 3):
+                step = pick(rng, 10, 100)
+                points = ends[-1] + 1 + -(-100 // step)
+                cases.line(kept(Line(points, step, pick(rng, 0, 600), pick(rng, 0, 100), [0], [300], [0] + ends[:-1], ends, trains)))
+
+
 def broken_rules(cases, rng):
     for line in broken_lines(rng, 12, 6):
         cases.line(line)
@@ -136,7 +148,7 @@ def lent_lengths(cases, rng):
 def main():
     rng = random.Random(20241117)
     cases = Cases()
-    for part in (sample, sizes, many_trains, late_starts, broken_rules, bound, lent_lengths):
+    for part in (sample, sizes, many_trains, late_starts, broken_rules, bound, lent_lengths, equal_blocks):
         part(cases, rng)
     cases.write("study_cases")
 

@@ -16,6 +16,7 @@ ROOT = os.path.dirname(os.path.dirname(os.path.abspath(__file__)))
 TOOL = os.path.join(ROOT, "tools", "linefile")
 SAMPLE = os.path.join(ROOT, "examples", "sample.txt")
 VALLEY = os.path.join(ROOT, "examples", "valley.txt")
+TUNNEL = os.path.join(ROOT, "examples", "tunnel.txt")
 
 SAMPLE_TRAIN = [0, 100, 1, 2, 72, 50, 0, 6, 0, 0]
 SAMPLE_NUMBERS = [7, 100, 1, 2, 10, 20, 0, 0, 72, 0, 2, 2, 5, 2] + 2 * SAMPLE_TRAIN
@@ -397,7 +398,7 @@ class Examples(unittest.TestCase):
         self.assertEqual(data, packed_numbers(SAMPLE_NUMBERS))
 
     def test_examples_round_trip(self):
-        for name in [SAMPLE, VALLEY]:
+        for name in [SAMPLE, VALLEY, TUNNEL]:
             data = run_tool("pack", name).stdout
             text = run_tool("show", given=data).stdout
             self.assertEqual(run_tool("pack", given=text).stdout, data)

@@ -15,6 +15,8 @@ sys.dont_write_bytecode = True
 from yardstick import PROGRAM_BOUND, program, sample_line, write_line  # noqa: E402
 
 PROGRAM = TOP_FOLDER / "target" / "bin" / "sheet_program"
+LINEFILE = TOP_FOLDER / "tools" / "linefile"
+TUNNEL = TOP_FOLDER / "examples" / "tunnel.txt"
 SAMPLE = write_line(sample_line())
 
 
@@ -33,6 +35,11 @@ def printed(*pieces):
 class SheetProgram(unittest.TestCase):
     def test_sample(self):
         self.assertEqual(printed(SAMPLE), b"train start run block\n1 0 69282976 0\n2 57282976 69282976 2\n")
+
+    def test_last_of_equal_blocks_is_named(self):
+        tunnel = subprocess.run([LINEFILE, "pack", TUNNEL], check=True, capture_output=True).stdout
+        sheet = b"train start run block\n1 0 132000000 0\n2 73000000 132000000 8\n3 146000000 132000000 8\n"
+        self.assertEqual(printed(tunnel), sheet)
 
     def test_pieces(self):
         self.assertEqual(printed(*(SAMPLE[i:i + 1] for i in range(len(SAMPLE)))), program(SAMPLE))

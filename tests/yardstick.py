@@ -13,7 +13,7 @@ import calculator  # noqa: E402
 from calculator import HEADER_LINE, PROGRAM_BOUND, Hold, Line, Refused, Sheet, Train, number_of  # noqa: E402, F401
 from calculator import open_call, padded, path_by_trying, path_call, sample_line  # noqa: E402, F401
 
-VERSION = 6                 # how many requests of document 02 are landed, from the first on
+VERSION = 7                 # how many requests of document 02 are landed, from the first on
 POINT_SIZE = 25             # bytes of a point in the diagram
 
 accepted_line = partial(calculator.accepted_line, version=VERSION)

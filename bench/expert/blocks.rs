@@ -28,7 +28,7 @@ impl Blocks {
         blocks
     }
 
-    /// The least start of the train added and the block that fixes it, counted from 1.
+    /// The least start of the train added and the last block that fixes it, counted from 1.
     pub fn add(&mut self, pieces: &[Piece], curves: &Curves, loss: u32, cells: u32) -> (u64, u64) {
         let (mut start, mut block) = (0, 0);
         let mut k = 0;
@@ -38,9 +38,9 @@ impl Blocks {
                 k += 1;
             }
             // the hold does not begin before the departure from the piece's start, so most blocks need no closer look
-            if start + pieces[k].time < free {
+            if start + pieces[k].time <= free {
                 let wait = free.saturating_sub(begin(&pieces[k], block_start, loss, curves));
-                if start < wait {
+                if 0 < wait && start <= wait {
                     (start, block) = (wait, j as u64 + 1);
                 }
             }

@@ -44,7 +44,7 @@ impl Sheet {
             && (0..self.blocks as usize).all(|j| hold.begins[j] < hold.ends[j] && hold.ends[j] <= LATEST_END)
     }
 
-    /// The least start of the train added and the block that fixes it, counted from 1.
+    /// The least start of the train added and the last block that fixes it, counted from 1.
     pub fn add(&mut self, hold: &HoldRecord) -> Result<(u64, u64), Refusal> {
         if !self.is_sound() {
             return Err(12);
@@ -56,7 +56,7 @@ impl Sheet {
             return Err(14);
         }
         let (mut start, mut block) = (0, 0);
-        for j in 0..self.blocks as usize {
+        for j in (0..self.blocks as usize).rev() {
             let wait = self.free[j].saturating_sub(hold.begins[j]);
             if start < wait {
                 (start, block) = (wait, j as u64 + 1);

@@ -1,2 +1,3 @@
 pub mod Sample
 pub mod OneMore
+pub mod Ties

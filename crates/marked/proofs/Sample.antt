@@ -6,7 +6,7 @@ use mathlib.Core.List.{List, [], _∷_, _++_}
 use mathlib.Core.Path.{_≡_, refl}
 use lib.Ieee.{ofInt, toBits}
 use lib.ListN.{take, replicate}
-use Rattle.rules.specs.Count.{_and_, rowFrom, setBelow, every, within, greatestBelow, lowestFrom, firstBelow, lastBelow, ceilDiv}
+use Rattle.rules.specs.Count.{_and_, rowFrom, setBelow, every, within, greatestBelow, lowestFrom, lastBelow, ceilDiv}
 use Rattle.rules.specs.File.{word, words, recordAt}
 use Rattle.rules.specs.Line.{lineOf, trainAt, trainOf}
 use Rattle.rules.specs.Run.{balisePlace, latestBalise, distance, grownLength, grownCells}
@@ -193,7 +193,7 @@ pub record Uncertainty : Type 0 where
 
 pub tables : Marked × Middle × Diagram × Pattern × Uncertainty
 unfolding bytes sampleLine sampleTrain sampleWith sample middleLine firstTrain secondTrain thirdTrain middleWith middle _and_ rowFrom setBelow every within
-    greatestBelow lowestFrom firstBelow lastBelow ceilDiv word words recordAt lineOf trainAt squared change brakingLoss trainCells balisePlace latestBalise
+    greatestBelow lowestFrom lastBelow ceilDiv word words recordAt lineOf trainAt squared change brakingLoss trainCells balisePlace latestBalise
     distance grownLength grownCells limitFrom cellLimit lastOr lowestCovered capSpeed listed capOf cap bandStep bandsStep tractionStep forwardSweep
     backwardBefore backwardSweep forward runAt runRow nextDigit rootDigits leaving root cellTime dwellFrom dwell arrival departure arrivals approachPoint
     holdBegin holdEnd holdWith fresh leastStart blockNamed sheetAfter firstBroken refusal whole nothingAfter lineSizes trainSizes limitPointsRule limitsRule

@@ -13,7 +13,7 @@ use Rattle.rules.specs.Sheet.{Sheet, begin, end, freeTime, firstBegin, l
 use Rattle.rules.specs.Refusal.{firstBroken, sheetRule, holdRule, addingRules}
 use Rattle.rules.specs.Calls.{accepted, addition, added}
 use Rattle.rules.specs.Demand.{SameWithin, answers, leftBy}
-use Rattle.rules.proofs.Count.{set-below-agree, every-agree, greatest-agree, first-agree}
+use Rattle.rules.proofs.Count.{set-below-agree, every-agree, greatest-agree, last-agree}
 use Rattle.rules.proofs.Sheet.{after-is, either-way}
 
 -- two sheets with the same counts, and the same free times and first train's beginnings within the block count
@@ -52,7 +52,7 @@ module _ (s s′ : Sheet) (h h′ : Hold) (of : SameSheet s s′) (same : SameWi
   unfolding blockNamed
   same-block start =
       rw (← of .blocks)
-      (ap (λ o. cond (eqb start 0) 0 (countedFrom1 o)) (first-agree (s .blocks) _ _ (λ b l. ap₂ eqb (ap (λ x. start + x) (same .begins b l)) (of .free b l))))
+      (ap (λ o. cond (eqb start 0) 0 (countedFrom1 o)) (last-agree (s .blocks) _ _ (λ b l. ap₂ eqb (ap (λ x. start + x) (same .begins b l)) (of .free b l))))
 
   same-rules : firstBroken (addingRules s h) ≡ firstBroken (addingRules s′ h′)
   same-rules = rw (same-12, of .trains, same-14)

@@ -207,12 +207,12 @@ pub record FirstPasses (n : ℕ) (test : ℕ → Bool) (b : ℕ) : Type 0 where
   pub passes : test b ≡ true
   pub none-before : NonePasses b test
 
-pub first-none : (n : ℕ) (test : ℕ → Bool) → NonePasses n test → firstBelow n test ≡ none
+first-none : (n : ℕ) (test : ℕ → Bool) → NonePasses n test → firstBelow n test ≡ none
 unfolding firstBelow
 first-none zero test h = refl
 first-none (suc n) test h = rw (first-none n test (λ i l. h i (omega arith)), h n (omega arith))
 
-pub first-found : (n : ℕ) (test : ℕ → Bool) (b : ℕ) → FirstPasses n test b → firstBelow n test ≡ some b
+first-found : (n : ℕ) (test : ℕ → Bool) (b : ℕ) → FirstPasses n test b → firstBelow n test ≡ some b
 unfolding firstBelow
 first-found zero test b f = absurd (omega (arith, f .there))
 first-found (suc n) test b f = go (decLe n b) (first-found n test b)
@@ -248,10 +248,14 @@ first-there n test = (
   λ s. ⊎-elim (λ fails. absurd (false≢true (sym (fails (s .0) (s .1)) ∙ s .2))) (λ f. ap isThere (first-found n test (f .0) (f .1))) (find-first n test),
 )
 
-pub first-agree : (n : ℕ) (f g : ℕ → Bool) → ((i : ℕ) → i < n → f i ≡ g i) → firstBelow n f ≡ firstBelow n g
-unfolding firstBelow
-first-agree zero f g h = refl
-first-agree (suc n) f g h = rw (first-agree n f g (λ i l. h i (omega arith)), h n (omega arith))
+-- the last number below suc n is n, if it passes, and otherwise the last below n
+pub last-here : (n : ℕ) (test : ℕ → Bool) → test n ≡ true → lastBelow (suc n) test ≡ some n
+unfolding lastBelow
+last-here n test e = rw e
+
+pub last-lower : (n : ℕ) (test : ℕ → Bool) → test n ≡ false → lastBelow (suc n) test ≡ lastBelow n test
+unfolding lastBelow
+last-lower n test e = rw e
 
 -- the last number that passes
 pub record LastPasses (n : ℕ) (test : ℕ → Bool) (j : ℕ) : Type 0 where
@@ -262,7 +266,6 @@ pub record LastPasses (n : ℕ) (test : ℕ → Bool) (j : ℕ) : Type 0 where
 
 -- there is one where some number passes
 pub last-passes : (n : ℕ) (test : ℕ → Bool) (i : ℕ) → i < n → test i ≡ true → (j : ℕ) × LastPasses n test j
-unfolding lastBelow
 last-passes zero test i l e = absurd (omega arith)
 last-passes (suc n) test i l e = go (test n) refl (λ h. last-passes n test i h e)
   where
@@ -270,15 +273,12 @@ last-passes (suc n) test i l e = go (test n) refl (λ h. last-passes n test i h 
     lower q k m p = ⊎-elim (λ (z : k ≡ n). absurd (false≢true (sym q ∙ ap test (sym z) ∙ p))) (λ lt. lt) (eq-or-lt-of-le (le-of-suc-le-suc m))
 
     go : (b : Bool) → test n ≡ b → (i < n → (j : ℕ) × LastPasses n test j) → (j : ℕ) × LastPasses (suc n) test j
-    go true q r = (
-      n,
-      record { found = ap (λ (b : Bool). orElse (ifPasses b n) (lastBelow n test)) q; there = omega arith; passes = q; last = λ k m p. omega arith },
-    )
+    go true q r = (n, record { found = last-here n test q; there = omega arith; passes = q; last = λ k m p. omega arith })
     go false q r =
         let (j, f) = r (lower q i l e) in (
           j,
           record {
-            found = ap (λ (b : Bool). orElse (ifPasses b n) (lastBelow n test)) q ∙ f .found;
+            found = last-lower n test q ∙ f .found;
             there = omega (arith, f .there);
             passes = f .passes;
             last = λ k m p. f .last k (lower q k m p) p;
@@ -288,7 +288,7 @@ last-passes (suc n) test i l e = go (test n) refl (λ h. last-passes n test i h 
 pub last-none : (n : ℕ) (test : ℕ → Bool) → NonePasses n test → lastBelow n test ≡ none
 unfolding lastBelow
 last-none zero test h = refl
-last-none (suc n) test h = rw (h n (omega arith)) (last-none n test (λ i l. h i (omega arith)))
+last-none (suc n) test h = last-lower n test (h n (omega arith)) ∙ last-none n test (λ i l. h i (omega arith))
 
 pub last-agree : (n : ℕ) (f g : ℕ → Bool) → ((i : ℕ) → i < n → f i ≡ g i) → lastBelow n f ≡ lastBelow n g
 unfolding lastBelow

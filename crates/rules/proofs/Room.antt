@@ -36,7 +36,7 @@ bounded-added s h sound =
     block = go (decLt 0 (leastStart s h))
       where
         go : Dec (0 < leastStart s h) → blockNamed s h (leastStart s h) < 10 ^ 2
-        go (yes p) = let (b, l, e, binds, first) = block-is s h .first p in omega (arith, sound .keeps .blocks-most)
+        go (yes p) = let (b, l, e, binds, last) = block-is s h .last p in omega (arith, sound .keeps .blocks-most)
         go (no z) = omega (arith, block-is s h .at-zero (omega arith))
 
 bounded-answers : (s : Sheet) (calls : List Hold) → Sound s → (k : ℕ) → Bounded (getD (answers s calls) k (refused 0))

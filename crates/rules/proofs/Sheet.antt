@@ -11,16 +11,16 @@ use native.Mathlib.Omega.{arith}
 use lib.Dec.{eqb, ltb}
 use lib.ListN.{length, getD-replicate}
 use borrow.Author.Tests.{leb-true, le-leb, ltb-true, lt-ltb, eqb-true, eq-eqb, eqb-false, ne-eqb, not-true}
-use Rattle.rules.specs.Count.{entry, every, setBelow}
+use Rattle.rules.specs.Count.{entry, every, setBelow, countedFrom1}
 use Rattle.rules.specs.Hold.{Hold}
 use Rattle.rules.specs.Sheet.{Sheet, begin, end, freeTime, firstBegin, fresh, leastStart, blockNamed, sheetAfter}
 use Rattle.rules.specs.Refusal.{rule, firstBroken, sheetRule, roomRule, holdRule, addingRules}
 use Rattle.rules.specs.Calls.{Addition, refused, accept, refuse, added}
 use Rattle.rules.specs.Admitted.{Rule12, Rule14}
 use Rattle.rules.specs.Meaning.{Binds, IsLeastStart, IsBlockNamed, IsSheetAfter}
-use Rattle.rules.proofs.Count.{NonePasses, FirstPasses, length-set-below, set-below-at, set-below-beyond, and-left, and-right}
+use Rattle.rules.proofs.Count.{length-set-below, set-below-at, set-below-beyond, and-left, and-right}
 use Rattle.rules.proofs.Count.{and-both, every-at, every-all, within-means, within-holds, at-most-greatest, greatest-at-most}
-use Rattle.rules.proofs.Count.{greatest-attained, first-found, find-first}
+use Rattle.rules.proofs.Count.{greatest-attained, last-passes}
 
 -- ---- rules
 
@@ -95,16 +95,14 @@ start-binds s h p = let (b, l, e) = greatest-attained (s .blocks) (λ b. freeTim
 pub block-is : (s : Sheet) (h : Hold) → IsBlockNamed s h (leastStart s h) (blockNamed s h (leastStart s h))
 unfolding blockNamed
 block-is s h =
-    let test : ℕ → Bool = λ b. eqb (leastStart s h + begin h b) (freeTime s b) in
-    let loose : (b : ℕ) → test b ≡ false → Binds s h (leastStart s h) b → ⊥ = λ b. eqb-false (leastStart s h + begin h b) (freeTime s b) in
     record {
       at-zero = λ e. rw e;
-      first = λ p.
-          let some-binds : NonePasses (s .blocks) test → ⊥ = λ fails. let (b, l, e) = start-binds s h p in loose b (fails b l) e in
-          let found : (b : ℕ) × FirstPasses (s .blocks) test b = ⊎-elim (λ fails. absurd (some-binds fails)) (λ f. f) (find-first (s .blocks) test) in
-          let (b, f) = found in
-          let named : blockNamed s h (leastStart s h) ≡ b + 1 = rw (ne-eqb (leastStart s h) 0 (λ z. omega arith), first-found (s .blocks) test b f, add-one) in
-          (b, f .there, named, eqb-true (leastStart s h + begin h b) (freeTime s b) (f .passes), λ c l. loose c (f .none-before c l));
+      last = λ p.
+          let binding : ℕ → Bool = λ b. eqb (leastStart s h + begin h b) (freeTime s b) in
+          let (i, there, binds) = start-binds s h p in
+          let (b, f) = last-passes (s .blocks) binding i there (eq-eqb _ _ binds) in
+          let named : blockNamed s h (leastStart s h) ≡ b + 1 = rw (ne-eqb (leastStart s h) 0 (λ z. omega arith), add-one) (ap countedFrom1 (f .found)) in
+          (b, f .there, named, eqb-true _ _ (f .passes), λ c l e. f .last c l (eq-eqb _ _ e));
     }
 
 -- ---- the sheet after

@@ -130,12 +130,12 @@ pub record IsLeastStart (s : Sheet) (h : Hold) (start : ℕ) : Type 0 where
 abbrev pub Binds : Sheet → Hold → ℕ → ℕ → Type 0
 Binds s h start b = start + begin h b ≡ freeTime s b
 
--- the block named, counted from 1: the first that binds, or 0 if the start is 0. A start above 0 always names one.
+-- the block named, counted from 1: the last that binds, or 0 if the start is 0. A start above 0 always names one.
 pub record IsBlockNamed (s : Sheet) (h : Hold) (start block : ℕ) : Type 0 where
   pub at-zero : start ≡ 0 → block ≡ 0
-  pub first :
+  pub last :
       0 < start →
-      (b : ℕ) × (b < s .blocks) × (block ≡ b + 1) × Binds s h start b × ((c : ℕ) → c < b → Binds s h start c → ⊥)
+      (b : ℕ) × (b < s .blocks) × (block ≡ b + 1) × Binds s h start b × ((c : ℕ) → c < s .blocks → Binds s h start c → c ≤ b)
 
 -- the sheet after an addition at this start
 pub record IsSheetAfter (s : Sheet) (h : Hold) (start : ℕ) (after : Sheet) : Type 0 where

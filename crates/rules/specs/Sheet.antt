@@ -1,11 +1,11 @@
 -- Document 01, "The sheet of starts": hold records and sheets with any contents, the least start, the block named and the sheet after.
--- Document 02, "Req 03": a sheet keeps the first train's beginnings.
+-- Document 02, "Req 03": a sheet keeps the first train's beginnings; "Req 07": of several blocks that fix a start equally the last is named.
 use Prim.Native.Nat.{ℕ, _+_, _-_}
 use mathlib.Core.Bool.{cond}
 use mathlib.Core.List.{List}
 use lib.Dec.{eqb}
 use lib.ListN.{replicate}
-use Rattle.rules.specs.Count.{entry, setBelow, greatestBelow, countedFrom1, firstBelow}
+use Rattle.rules.specs.Count.{entry, setBelow, greatestBelow, countedFrom1, lastBelow}
 use Rattle.rules.specs.Hold.{Hold}
 
 -- the block count, the number of trains, and for each block its free time and the beginning of the first train's hold
@@ -36,9 +36,9 @@ fresh n = record { blocks = n; trains = 0; free = replicate 32 0; first = replic
 unfoldable pub leastStart : Sheet → Hold → ℕ
 leastStart s h = greatestBelow (s .blocks) (λ b. freeTime s b - begin h b)
 
--- The block named, counted from 1: the first where start plus beginning equals the free time before the addition, or 0 if the start is 0.
+-- The block named, counted from 1: the last where start plus beginning equals the free time before the addition, or 0 if the start is 0.
 unfoldable pub blockNamed : Sheet → Hold → ℕ → ℕ
-blockNamed s h start = cond (eqb start 0) 0 (countedFrom1 (firstBelow (s .blocks) (λ b. eqb (start + begin h b) (freeTime s b))))
+blockNamed s h start = cond (eqb start 0) 0 (countedFrom1 (lastBelow (s .blocks) (λ b. eqb (start + begin h b) (freeTime s b))))
 
 -- The sheet after an addition at this start: one train more, and each free time is start plus end. The first train's beginnings are set by
 -- the first addition alone. Places beyond the block count stay.

@@ -20,7 +20,7 @@ fn binds(start: u64, begin: u64, free: u64) -> bool
     false
 }
 
-// The block named, among the first blocks.
+// The block named, among the first blocks. The last are searched first.
 pub fn block_named<'a>(blocks: usize, free: &'a [u64; 32], begins: &'a [u64; 32], start: u64) -> u64
     ensures { λ r. ⌜ r ≡ blockNamed (sheetFrom (min blocks 32) 0 (now (free .entry)) []) (holdFrom 0 (now (begins .entry)) []) start ⌝ }
 {
@@ -28,12 +28,13 @@ pub fn block_named<'a>(blocks: usize, free: &'a [u64; 32], begins: &'a [u64; 32]
         return 0;
     }
     let count = places(blocks);
-    let mut b = 0;
-    while b < count {
+    let mut searched = 0;
+    while searched < count {
+        searched += 1;
+        let b = count - searched;
         if binds(start, begins[b], free[b]) {
             return b as u64 + 1;
         }
-        b += 1;
     }
     0
 }

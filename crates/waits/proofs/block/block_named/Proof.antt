@@ -1,24 +1,24 @@
--- `block_named`: at the loop's test none of the first b blocks binds. Assumes nothing.
-use Prim.Native.Nat.{ℕ, _≤_, _-_, _+_}
-use mathlib.Core.Bool.{Bool}
+-- `block_named`: at the loop's test no block among those searched binds. Assumes nothing.
+use Prim.Native.Nat.{ℕ, suc, _≤_, _<_, _-_, _+_}
+use mathlib.Core.Bool.{Bool, true, false}
 use mathlib.Core.List.{[]}
+use mathlib.Core.Option.{none, some}
 use mathlib.Core.Path.{_≡_, sym, _∙_}
-use native.Mathlib.Nat.{min-le-right}
+use native.Mathlib.Nat.{min-le-right, sub-zero, sub-eq-zero-of-le}
 use native.Mathlib.Numerals.{add-one}
 use native.Mathlib.Omega.{arith}
 use lib.Dec.{eqb}
-use borrow.Author.Count.{below-more}
 use borrow.Author.Needs.{needs}
 use borrow.Author.Tests.{eq-eqb, ne-eqb}
+use Rattle.rules.specs.Count.{lastBelow}
 use Rattle.rules.specs.Hold.{Hold}
 use Rattle.rules.specs.Sheet.{Sheet, begin, freeTime, blockNamed}
-use Rattle.rules.proofs.Count.{NonePasses, FirstPasses, first-none, first-found}
+use Rattle.rules.proofs.Count.{last-here, last-lower}
 use Rattle.sheet_judging.specs.Fields.{sheetFrom, holdFrom}
-use Rattle.rules.proofs.Loops.{none-done}
 use Rattle.waits.proofs.block.block_named.Statement.{statement}
 use Rattle.waits.proofs.block.block_named.Tie as tie
 
--- the block named, by what the code found
+-- the block named, by where the search has come
 module _ (s : Sheet) (h : Hold) (start : ℕ) where
   abbrev binding : ℕ → Bool
   binding b = eqb (start + begin h b) (freeTime s b)
@@ -27,19 +27,39 @@ module _ (s : Sheet) (h : Hold) (start : ℕ) where
   unfolding blockNamed
   at-zero z = rw (eq-eqb start 0 z)
 
-  first-named : (start ≡ 0 → ⊥) → (b : ℕ) → FirstPasses (s .blocks) binding b → b + 1 ≡ blockNamed s h start
+  last-named : (start ≡ 0 → ⊥) → (b : ℕ) → lastBelow (s .blocks) binding ≡ some b → b + 1 ≡ blockNamed s h start
   unfolding blockNamed
-  first-named not0 b f = rw (ne-eqb start 0 not0, first-found (s .blocks) binding b f, add-one)
+  last-named not0 b e = rw (ne-eqb start 0 not0, e, add-one)
 
-  none-named : (start ≡ 0 → ⊥) → NonePasses (s .blocks) binding → 0 ≡ blockNamed s h start
+  none-named : (start ≡ 0 → ⊥) → lastBelow (s .blocks) binding ≡ none → 0 ≡ blockNamed s h start
   unfolding blockNamed
-  none-named not0 f = rw (ne-eqb start 0 not0, first-none (s .blocks) binding f)
+  none-named not0 e = rw (ne-eqb start 0 not0, e)
+
+-- the last of count blocks that binds is the last of those not searched yet
+module _ (test : ℕ → Bool) (count searched : ℕ) where
+  abbrev IsLeft : Type 0
+  IsLeft = lastBelow count test ≡ lastBelow (count - searched) test
+
+  module _ (more : searched < count) (left : IsLeft) where
+    next : count - searched ≡ suc (count - (searched + 1))
+    next = omega arith
+
+    found : test (count - (searched + 1)) ≡ true → lastBelow count test ≡ some (count - (searched + 1))
+    found e = left ∙ rw next (last-here _ test e)
+
+    lower : test (count - (searched + 1)) ≡ false → lastBelow count test ≡ lastBelow (count - (searched + 1)) test
+    lower e = left ∙ rw next (last-lower _ test e)
+
+  all-searched : count ≤ searched → IsLeft → lastBelow count test ≡ none
+  unfolding lastBelow
+  all-searched done left = left ∙ rw (sub-eq-zero-of-le done)
 
 abbrev Inv-loop : tie.InvT-loop
-Inv-loop blocks free begins start count b₀ b = (count ≤ 32) × (b ≤ count) × NonePasses b (binding (sheetFrom blocks 0 free []) (holdFrom 0 begins []) start)
+Inv-loop blocks free begins start count searched₀ searched =
+    (count ≤ 32) × (searched ≤ count) × IsLeft (binding (sheetFrom blocks 0 free []) (holdFrom 0 begins []) start) count searched
 
 abbrev μ-loop : tie.MeasureT-loop
-μ-loop blocks free begins start count b₀ b = count - b
+μ-loop blocks free begins start count searched₀ searched = count - searched
 
 returns : tie.Need-returns Inv-loop μ-loop
 returns c = at-zero _ _ _ (c .if1 .taken)
@@ -48,7 +68,13 @@ places-requires : tie.Need-places-requires Inv-loop μ-loop
 places-requires c κs = search needs
 
 loop-holds : tie.Need-loop-holds Inv-loop μ-loop
-loop-holds c = (rw (c .places .ensures) (min-le-right _ 32), search needs, λ k l. absurd (omega arith))
+loop-holds c = (rw (c .places .ensures) (min-le-right _ 32), search needs, rw sub-zero)
+
+add-searched : tie.Need-add-searched Inv-loop μ-loop
+add-searched c = search needs
+
+sub-b : tie.Need-sub-b Inv-loop μ-loop
+sub-b c = search needs
 
 mul-binds : tie.Need-mul-binds Inv-loop μ-loop
 mul-binds c = search needs
@@ -72,29 +98,23 @@ returns-2 : tie.Need-returns-2 Inv-loop μ-loop
 returns-2 c =
     let turn = c .before .before .before .before in
     let s = turn .before in
-    first-named _ _ _ (s .before .before .if1 .left) (s .loop .b)
-    (record {
-      there = rw (← s .before .places .ensures) (turn .loop-test .taken);
-      passes = sym (c .before .binds .ensures) ∙ c .if2 .taken;
-      none-before = s .loop .inv .2;
-    })
-
-add-b : tie.Need-add-b Inv-loop μ-loop
-add-b c = search needs
+    last-named _ _ _ (s .before .before .if1 .left) _
+    (rw (← s .before .places .ensures) (found _ _ _ (turn .loop-test .taken) (s .loop .inv .2) (sym (c .before .binds .ensures) ∙ c .if2 .taken)))
 
 loop-less : tie.Need-loop-less Inv-loop μ-loop
 loop-less c = search needs
 
 loop-again : tie.Need-loop-again Inv-loop μ-loop
 loop-again c =
-    let s = c .before .before .before .before .before in
-    (s .loop .inv .0, search needs, below-more _ _ (s .loop .inv .2) (sym (c .before .binds .ensures) ∙ c .if2 .left))
+    let turn = c .before .before .before .before in
+    let s = turn .before in
+    (s .loop .inv .0, search needs, lower _ _ _ (turn .loop-test .taken) (s .loop .inv .2) (sym (c .before .binds .ensures) ∙ c .if2 .left))
 
 returns-3 : tie.Need-returns-3 Inv-loop μ-loop
 returns-3 c =
     let s = c .before in
     none-named _ _ _ (s .before .before .if1 .left)
-    (rw (← s .before .places .ensures) (none-done _ (s .loop .inv .1) (omega arith) (s .loop .inv .2)))
+    (rw (← s .before .places .ensures) (all-searched _ _ _ (omega arith) (s .loop .inv .2)))
 
 pub block-named-spec : {M : Type 1} → statement M
 block-named-spec =
@@ -105,6 +125,8 @@ block-named-spec =
     returns
     places-requires
     loop-holds
+    add-searched
+    sub-b
     mul-binds
     element-copy-out-binds
     mul-binds-2
@@ -112,7 +134,6 @@ block-named-spec =
     binds-requires
     add-result
     returns-2
-    add-b
     loop-less
     loop-again
     returns-3)
