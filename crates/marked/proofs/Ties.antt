@@ -5,7 +5,6 @@ use mathlib.Core.List.{_∷_}
 use mathlib.Core.Path.{_≡_, refl}
 use lib.ListN.{replicate}
 use Rattle.rules.specs.Count.{_and_, every, within, setBelow, greatestBelow, lastBelow}
-use Rattle.rules.specs.Hold.{Hold}
 use Rattle.rules.specs.Sheet.{Sheet, leastStart, blockNamed, sheetAfter}
 use Rattle.rules.specs.Refusal.{firstBroken, sheetRule, holdRule}
 use Rattle.rules.specs.Calls.{Answer, accepted, added}

@@ -11,7 +11,7 @@ use lib.Dec.{leb}
 use lib.ListN.{length, set}
 use borrow.Author.Tests.{le-leb, lt-leb, not-true, not-false}
 use Rattle.rules.specs.Count.{_and_, entry, rowFrom, row, setBelow, greatestBelow, every, within, allWithin, belowBy, risesBy}
-use Rattle.rules.proofs.Count.{NonePasses, and-false, every-agree, length-row, entry-row}
+use Rattle.rules.proofs.Count.{and-false, every-agree, length-row, entry-row}
 
 -- two tests that the code holds as x and y
 pub and-of : {r x y a b : Bool} → r ≡ (x and y) → x ≡ a → y ≡ b → r ≡ (a and b)
@@ -27,9 +27,6 @@ failed {r} e h = sym e ∙ not-true r h
 -- what holds of the counter at the loop's end holds of the count
 at-end : (P : ℕ → Type 0) {i n : ℕ} → i ≤ n → n ≤ i → P i → P n
 at-end P l m h = subst P (le-antisymm l m) h
-
-pub none-done : (test : ℕ → Bool) {i n : ℕ} → i ≤ n → n ≤ i → NonePasses i test → NonePasses n test
-none-done test l m h = at-end (λ k. NonePasses k test) l m h
 
 -- ---- every
 
