@@ -1,4 +1,4 @@
-// How long a train waits for the blocks, and the block that it waits for, by the arrays of a sheet and of a hold record.
+// How long a train waits for the blocks, and the block named, by the arrays of a sheet and of a hold record.
 mod block;
 mod wait;
 
