@@ -413,7 +413,7 @@ def headways(calls, rng):
 # ---- starts that several blocks fix equally
 
 def ties(calls, rng):
-    """All blocks, the first and the last, one of these, and any: with the same record again, and between two records."""
+    """All blocks, the first and the last, one of these, the first and a middle one, and any; then one record again and again."""
     for n in range(1, PLACES + 1):
         for blocks in (range(n), {0, n - 1}, {0}, {n - 1}, {0, n // 2}, rng.sample(range(n), rng.randint(1, n))):
             calls.open(n)
