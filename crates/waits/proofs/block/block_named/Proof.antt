@@ -35,28 +35,28 @@ module _ (s : Sheet) (h : Hold) (start : ℕ) where
   unfolding blockNamed
   none-named not0 e = rw (ne-eqb start 0 not0, e)
 
--- the last of count blocks that binds is the last of those not searched yet
+-- of count blocks searched from the last back: the last that binds is that of the blocks not searched yet
 module _ (test : ℕ → Bool) (count searched : ℕ) where
-  abbrev IsLeft : Type 0
-  IsLeft = lastBelow count test ≡ lastBelow (count - searched) test
+  abbrev SameLast : Type 0
+  SameLast = lastBelow count test ≡ lastBelow (count - searched) test
 
-  module _ (more : searched < count) (left : IsLeft) where
+  module _ (more : searched < count) (same : SameLast) where
     next : count - searched ≡ suc (count - (searched + 1))
     next = omega arith
 
     found : test (count - (searched + 1)) ≡ true → lastBelow count test ≡ some (count - (searched + 1))
-    found e = left ∙ rw next (last-here _ test e)
+    found e = same ∙ rw next (last-here _ test e)
 
     lower : test (count - (searched + 1)) ≡ false → lastBelow count test ≡ lastBelow (count - (searched + 1)) test
-    lower e = left ∙ rw next (last-lower _ test e)
+    lower e = same ∙ rw next (last-lower _ test e)
 
-  all-searched : count ≤ searched → IsLeft → lastBelow count test ≡ none
+  all-searched : count ≤ searched → SameLast → lastBelow count test ≡ none
   unfolding lastBelow
-  all-searched done left = left ∙ rw (sub-eq-zero-of-le done)
+  all-searched done same = same ∙ rw (sub-eq-zero-of-le done)
 
 abbrev Inv-loop : tie.InvT-loop
 Inv-loop blocks free begins start count searched₀ searched =
-    (count ≤ 32) × (searched ≤ count) × IsLeft (binding (sheetFrom blocks 0 free []) (holdFrom 0 begins []) start) count searched
+    (count ≤ 32) × (searched ≤ count) × SameLast (binding (sheetFrom blocks 0 free []) (holdFrom 0 begins []) start) count searched
 
 abbrev μ-loop : tie.MeasureT-loop
 μ-loop blocks free begins start count searched₀ searched = count - searched
