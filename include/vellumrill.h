@@ -43,7 +43,7 @@
 extern "C" {
 #endif
 
-/* Raised whenever a call, a struct or the meaning of a figure changes. */
+/* The number of document 02's requests in force, from the first on; raised with each of them. */
 #define VR_VERSION 7
 
 /* The numbers by name. */

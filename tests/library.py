@@ -1,8 +1,8 @@
 """The library for C, called from Python, with checks of all memory that is lent to it.
 
-The shared object is linked from the archive that `rt staticlib vellumrill` writes. Every lent buffer is filled with a
-pattern first and has guard entries behind it; neither a dot nor the highest byte of a squared speed or a time is that of the
-pattern.
+The shared object is linked from the archive that `rt staticlib vellumrill` writes; an archive that is older than its sources is not
+taken. Every lent buffer is filled with a pattern first and has guard entries behind it; neither a dot nor the highest byte of a
+squared speed or a time is that of the pattern.
 """
 import ctypes
 import subprocess
@@ -11,7 +11,11 @@ from ctypes import POINTER, Structure, c_size_t, c_uint8, c_uint32, c_uint64
 from pathlib import Path
 
 TOP_FOLDER = Path(__file__).resolve().parent.parent
-ARCHIVE = TOP_FOLDER / "target" / "staticlib" / "libvellumrill.a"
+sys.path.insert(0, str(TOP_FOLDER / "tools"))
+
+from building import LIBRARY, out_of_date  # noqa: E402
+
+ARCHIVE = LIBRARY.path
 SHARED_OBJECT = TOP_FOLDER / "target" / "libvellumrill.so"
 INCLUDE = TOP_FOLDER / "include"
 
@@ -89,8 +93,9 @@ class Touched(Exception):
 
 
 def need_archive():
-    if not ARCHIVE.exists():
-        sys.exit("%s is not there: run `rt staticlib vellumrill`" % ARCHIVE.relative_to(TOP_FOLDER))
+    """Ends the test where the archive is not there, or is older than something that it is made from."""
+    if out_of_date(ARCHIVE, LIBRARY.crate):
+        sys.exit("%s is not there or older than its sources: run `rt staticlib vellumrill`" % ARCHIVE.relative_to(TOP_FOLDER))
 
 
 def link_shared_object():

@@ -1,4 +1,5 @@
-"""What the scripts that pack cases have in common."""
+"""What the scripts that pack cases have in common. Each writes below crates, or below the folder that it is given."""
+import sys
 from collections import Counter
 from pathlib import Path
 
@@ -7,9 +8,11 @@ CRATES = Path(__file__).resolve().parent.parent / "crates"
 
 def write_cases(program, packed, lines, tally):
     """Writes stdin and stdout of a test program, and prints how many cases of each kind there are."""
-    (CRATES / program / "stdin").write_bytes(packed)
+    folder = Path(*sys.argv[1:2] or [CRATES]) / program
+    folder.mkdir(parents=True, exist_ok=True)
+    (folder / "stdin").write_bytes(packed)
     answers = "".join(line + "\n" for line in lines)
-    (CRATES / program / "stdout").write_text(answers)
+    (folder / "stdout").write_text(answers)
     for what in sorted(tally):
         print("%6d %s" % (tally[what], what))
     print("%d bytes in, %d bytes out" % (len(packed), len(answers)))

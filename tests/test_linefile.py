@@ -25,15 +25,17 @@ SIZES = "points 7\nstep 100\nset-up 10\nrelease 20\n"
 TRAIN = "train goods\nlength 600\n"
 
 
+sys.dont_write_bytecode = True
+sys.path.insert(0, os.path.dirname(TOOL))
+
+import linetext  # noqa: E402
+
+
 def load_tool():
-    sys.dont_write_bytecode = True
     loader = importlib.machinery.SourceFileLoader("linefile", TOOL)
     module = importlib.util.module_from_spec(importlib.util.spec_from_loader("linefile", loader))
     loader.exec_module(module)
     return module
-
-
-linefile = load_tool()
 
 
 def packed_numbers(numbers):
@@ -45,11 +47,11 @@ def unpacked_numbers(data):
 
 
 def pack_text(text):
-    return linefile.to_bytes(linefile.read_text(text))
+    return linetext.to_bytes(linetext.read_text(text))
 
 
 def show_text(data):
-    return linefile.write_text(linefile.from_bytes(data))
+    return linetext.write_text(linetext.from_bytes(data))
 
 
 def read(name):
@@ -179,12 +181,12 @@ class Text(unittest.TestCase):
         for data in [plain.replace("\n", "\r\n").encode(), plain.replace("\n", "\r").encode(),
                      b"\xef\xbb\xbf" + plain.encode(), plain.rstrip("\n").encode(),
                      ("# Zürich\u2028points 3\n" + plain).encode()]:
-            self.assertEqual(pack_text(linefile.decode(data)), pack_text(plain))
+            self.assertEqual(pack_text(linetext.decode(data)), pack_text(plain))
 
     def test_example_in_the_help_packs(self):
-        start = linefile.HELP.index("  points 7")
-        end = linefile.HELP.index("  linefile pack")
-        numbers = unpacked_numbers(pack_text(linefile.HELP[start:end]))
+        text = load_tool().HELP
+        example = text[text.index("  points 7"):text.index("  linefile pack")]
+        numbers = unpacked_numbers(pack_text(example))
         self.assertEqual(numbers, SAMPLE_NUMBERS[:13] + [1] + SAMPLE_TRAIN)
 
 
@@ -246,7 +248,7 @@ class FaultsOfTheText(unittest.TestCase):
     def test_messages_with_line_number(self):
         for text, number, message in TEXT_FAULTS:
             with self.subTest(text=text[:80]):
-                with self.assertRaises(linefile.Fault) as caught:
+                with self.assertRaises(linetext.Fault) as caught:
                     pack_text(text)
                 self.assertEqual(caught.exception.status, 2)
                 self.assertRegex(str(caught.exception), f"^line {number}: ")
@@ -281,7 +283,7 @@ class FaultsOfTheText(unittest.TestCase):
 
 class FaultsOfTheFile(unittest.TestCase):
     def fault_of(self, data):
-        with self.assertRaises(linefile.FileFault) as caught:
+        with self.assertRaises(linetext.FileFault) as caught:
             show_text(data)
         self.assertEqual(caught.exception.status, 1)
         return str(caught.exception)
@@ -404,7 +406,7 @@ class Examples(unittest.TestCase):
             self.assertEqual(run_tool("pack", given=text).stdout, data)
 
     def test_valley_is_a_line_of_30_km_with_all_classes(self):
-        line = linefile.read_text(read(VALLEY).decode())
+        line = linetext.read_text(read(VALLEY).decode())
         metres = (line.sizes["points"] - 1) * line.sizes["step"]
         self.assertTrue(29_000 <= metres <= 32_000)
         self.assertTrue(10 <= len(line.pairs["block"]) <= 20)
@@ -413,7 +415,7 @@ class Examples(unittest.TestCase):
         self.assertEqual({train.train_class for train in line.trains}, {0, 1, 2})
 
     def test_valley_keeps_the_rules_of_the_line(self):
-        line = linefile.read_text(read(VALLEY).decode())
+        line = linetext.read_text(read(VALLEY).decode())
         points, step = line.sizes["points"], line.sizes["step"]
         limits, blocks = line.pairs["limit"], line.pairs["block"]
         self.assertTrue(3 <= points <= 4096 and 1 <= step <= 100)
@@ -424,13 +426,13 @@ class Examples(unittest.TestCase):
         self.assert_rising([end for _, end in blocks], 1, points - 1)
 
     def test_valley_keeps_the_rules_of_the_balises(self):
-        line = linefile.read_text(read(VALLEY).decode())
+        line = linetext.read_text(read(VALLEY).decode())
         points, step, balises = line.sizes["points"], line.sizes["step"], line.pairs["balise"]
         self.assertTrue(all(metres < step for _, metres in balises))
         self.assert_rising([point * step + metres for point, metres in balises], 1, (points - 1) * step)
 
     def test_valley_keeps_the_rules_of_the_trains(self):
-        line = linefile.read_text(read(VALLEY).decode())
+        line = linetext.read_text(read(VALLEY).decode())
         last_point, step = line.sizes["points"] - 1, line.sizes["step"]
         last_end = line.pairs["block"][-1][1]
         for train in line.trains:
