@@ -1,7 +1,8 @@
 /* Vellumrill: running times, block holds and earliest starts for lines under ERTMS Level 2.
  *
- * The calls of target/staticlib/libvellumrill.a, which `rt staticlib vellumrill` builds for x86-64 Linux. The rules
- * are documents 01 and 02; each call is proved against them (crates/vellumrill/src/lib.rt has the contracts).
+ * The calls of target/staticlib/libvellumrill.a, which `rt staticlib vellumrill` builds for x86-64 Linux. docs/RULES.md
+ * has the rules; each call is proved against them (crates/vellumrill/src/lib.rt has the contracts), and docs/CALLS.md
+ * tells more of each.
  *
  * `file` and `len` are the bytes of a line file, and train k is counted from 0. Times are in microseconds.
  *
