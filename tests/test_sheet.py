@@ -8,6 +8,7 @@ import fcntl
 import os
 import pty
 import random
+import shutil
 import signal
 import struct
 import subprocess
@@ -22,14 +23,13 @@ TOP_FOLDER = Path(__file__).resolve().parent.parent
 sys.dont_write_bytecode = True
 
 from damage_ways import questions  # noqa: E402
-from yardstick import PROGRAM_BOUND, VERSION, number_of, accepted_line, program, sample_line, write_line  # noqa: E402
+from yardstick import PROGRAM_BOUND, VERSION, accepted_line, number_of, program, sample_line, write_line  # noqa: E402
 
 import building  # noqa: E402
 import refusals  # noqa: E402
 from asking import ask, refusal_in  # noqa: E402
 from linetext import decode, read_text, to_bytes  # noqa: E402
 from messages import speaker  # noqa: E402
-from standin import Tree  # noqa: E402
 
 PROGRAM = building.PROGRAM.path
 SHEET = TOP_FOLDER / "sheet"
@@ -63,9 +63,11 @@ def taken(running, pipe):
 def printed(*pieces, command=(PROGRAM,)):
     """What a process prints that gets each piece of its input only after it has taken the one before."""
     reading, writing = os.pipe()
+    os.set_blocking(writing, False)
     with subprocess.Popen(command, stdin=reading, stdout=subprocess.PIPE) as running:
         for piece in pieces:
-            os.write(writing, piece)
+            if os.write(writing, piece) < len(piece):
+                raise ValueError("a piece is longer than the pipe")
             taken(running, reading)
         os.close(writing)
         os.close(reading)
@@ -88,7 +90,7 @@ def sheet(*arguments, given=b"", **options):
         options["input"] = given
     if "stdout" not in options:
         options["stdout"] = subprocess.PIPE
-    return subprocess.run([sys.executable, SHEET, *arguments], stderr=subprocess.PIPE, timeout=SECONDS, **options)
+    return subprocess.run([SHEET, *arguments], stderr=subprocess.PIPE, timeout=SECONDS, **options)
 
 
 def with_interrupts():
@@ -173,7 +175,7 @@ class Accepted(unittest.TestCase):
         self.check(sheet(given=SAMPLE))
         self.check(sheet("-", given=SAMPLE))
         for sizes in ((1,), (60, 8)):
-            self.assertEqual(printed(*cut_up(SAMPLE, *sizes), command=(sys.executable, SHEET)), SAMPLE_SHEET)
+            self.assertEqual(printed(*cut_up(SAMPLE, *sizes), command=(SHEET,)), SAMPLE_SHEET)
 
     def test_symbolic_link_from_another_folder(self):
         with tempfile.TemporaryDirectory() as folder:
@@ -190,10 +192,10 @@ class Accepted(unittest.TestCase):
 class Refused(unittest.TestCase):
     def check(self, data, explanation, *arguments):
         done = sheet(*arguments, given=data)
-        self.assertEqual(done.stdout, printed(data))
+        self.assertEqual(done.stdout, ask(data))
         self.assertEqual(done.returncode, 1)
         number = done.stdout.split()[1].decode()
-        self.assertEqual(done.stderr.decode(), f"sheet: explanation of {number}: {explanation}\n")
+        self.assertEqual(done.stderr.decode(), f"sheet: explanation of refused {number}: {explanation}\n")
 
     def test_explanations(self):
         line = sample_line()
@@ -215,7 +217,7 @@ class Refused(unittest.TestCase):
         self.check(b"\x01" * (16 * PROGRAM_BOUND), words)
         done = sheet("/dev/zero")
         self.assertEqual((done.returncode, done.stdout), (1, b"refused 2\n"))
-        self.assertEqual(done.stderr.decode(), f"sheet: explanation of 2: {words}\n")
+        self.assertEqual(done.stderr.decode(), f"sheet: explanation of refused 2: {words}\n")
 
     def test_line_text(self):
         with tempfile.TemporaryDirectory() as folder:
@@ -224,7 +226,7 @@ class Refused(unittest.TestCase):
                 Path(folder, "bad.txt").write_text(text.replace(old, new))
                 done = sheet("bad.txt", cwd=folder)
                 self.assertEqual((done.returncode, done.stdout), (1, b"refused %d\n" % number))
-                self.assertIn(b"sheet: explanation of %d: " % number, done.stderr)
+                self.assertIn(b"sheet: explanation of refused %d: " % number, done.stderr)
 
 
 class BadInput(unittest.TestCase):
@@ -235,11 +237,14 @@ class BadInput(unittest.TestCase):
         for word in words:
             self.assertIn(word, done.stderr.decode())
 
-    def test_folder(self):
-        self.check(sheet(EXAMPLES), f"{EXAMPLES} is a folder")
+    def test_directory(self):
+        self.check(sheet(EXAMPLES), f"{EXAMPLES} is a directory")
+        given = os.open(EXAMPLES, os.O_RDONLY)
+        self.check(sheet(stdin=given), "sheet: standard input is a directory")
+        os.close(given)
         with tempfile.TemporaryDirectory() as folder:
             Path(folder, "a.txt").mkdir()
-            self.check(sheet("a.txt", cwd=folder), "a.txt is a folder")
+            self.check(sheet("a.txt", cwd=folder), "a.txt is a directory")
 
     def test_files_that_cannot_be_read(self):
         self.check(sheet("/no/such"), "/no/such cannot be read: No such file or directory")
@@ -293,7 +298,8 @@ class HelpAndVersion(unittest.TestCase):
         for option in ("--help", "-h"):
             done = sheet(option)
             self.assertEqual((done.returncode, done.stderr), (0, b""))
-            for words in ("usage: sheet [FILE | -]", "exit status:", "0    the sheet is printed", "1    the file is refused", "2    failed"):
+            for words in ("usage: sheet [FILE | -]", "exit status:", "0    the sheet is printed", "1    the file is refused",
+                          "2    failed"):
                 self.assertIn(words, done.stdout.decode())
 
     def test_version_is_that_of_the_header(self):
@@ -337,7 +343,7 @@ class OutputThatIsNotWritten(unittest.TestCase):
 class Interrupts(unittest.TestCase):
     def test_while_the_input_is_read(self):
         reading, writing = os.pipe()
-        with subprocess.Popen([sys.executable, SHEET], stdin=reading, stdout=subprocess.PIPE, stderr=subprocess.PIPE,
+        with subprocess.Popen([SHEET], stdin=reading, stdout=subprocess.PIPE, stderr=subprocess.PIPE,
                               preexec_fn=with_interrupts) as running:
             os.write(writing, b"\x07")
             taken(running, reading)
@@ -349,6 +355,90 @@ class Interrupts(unittest.TestCase):
 
 # ------------------------------------------------------------ building, in a copy of the commands
 
+STANDIN_RT = """\
+import subprocess, sys, time
+from pathlib import Path
+
+mode = Path("rt.mode").read_text()
+with open("rt.calls", "a") as calls:
+    calls.write(" ".join(sys.argv[1:]) + "\\n")
+if mode == "wait":
+    while not Path("rt.go").exists():
+        time.sleep(0.01)
+if mode == "hang":
+    Path("rt.process").write_text(str(subprocess.Popen(["/bin/sleep", "600"]).pid))
+    time.sleep(600)
+if mode == "change":
+    time.sleep(0.1)
+    Path("crates/low/src/lib.rt").touch()
+if mode not in ("leave", "fail"):
+    Path("target/bin").mkdir(parents=True, exist_ok=True)
+    Path("target/bin/sheet_program").write_text("#!/bin/sh\\nprintf 'train start run block\\\\n1 0 5 0\\\\n'\\n")
+    Path("target/bin/sheet_program").chmod(0o755)
+print(Path("rt.failed" if mode.startswith("fail") else "rt.proved").read_text(), end="", flush=True)
+sys.exit(1 if mode.startswith("fail") else 0)
+"""
+
+
+class Tree:
+    """A copy of the commands with crates of its own and a stand-in for rt, which does what the file rt.mode says."""
+    ANSWER = b"train start run block\n1 0 5 0\n"
+    PROVED = ("fn low::one: proved\nrt: low proved (unchanged since it was last proved)\nrt: other proved (2 s)\n"
+              "rt: middle proved (3 s)\nrt: middle proved (3 s)\nrt: sheet_program proved (10 s)\n"
+              "rt: sheet_program ran, and wrote what its file 'stdout' has (0 s)\nrt: ok, 3 crates proved\n")
+    FAILED = ("rt: low proved (3 s)\ncrates/middle/src/lib.rt:3:7: error[x]: wrong\nrt: middle NOT PROVED (exit 1, 0 s)\n"
+              "rt: FAILED: middle\n")
+    CRATES = "# a comment: none\nlow:\nother: low\nmiddle: low   # more\nsheet_program: middle io libc\n"
+    FILES = ("crates/low/src/lib.rt", "crates/other/src/lib.rt", "crates/middle/src/lib.rt", "crates/middle/src/inner/deep.rt",
+             "crates/middle/must-fail/wrong.edit", "crates/sheet_program/src/main.rt", "crates/sheet_program/stdin")
+
+    def __init__(self, top):
+        self.top = top
+        self.environment = {"PATH": str(top / "bin")}
+        for name in ("tools", "include"):
+            shutil.copytree(TOP_FOLDER / name, top / name, ignore=shutil.ignore_patterns("__pycache__"))
+        for name in ("sheet", "headway"):
+            shutil.copy(TOP_FOLDER / name, top / name)
+        texts = {"crates.txt": self.CRATES, "rt.proved": self.PROVED, "rt.failed": self.FAILED, "rt.mode": "",
+                 "bin/rt": f"#!{sys.executable}\n{STANDIN_RT}", **dict.fromkeys(self.FILES, "source\n")}
+        for name, text in texts.items():
+            (top / name).parent.mkdir(parents=True, exist_ok=True)
+            (top / name).write_text(text)
+        (top / "bin" / "rt").chmod(0o755)
+        (top / "bin" / "python3").symlink_to(sys.executable)
+        for command in ("dirname", "readlink"):
+            (top / "bin" / command).symlink_to(shutil.which(command))
+
+    def set_mode(self, mode):
+        (self.top / "rt.mode").write_text(mode)
+
+    def touch(self, name):
+        os.utime(self.top / name)
+
+    def remove(self, command):
+        (self.top / "bin" / command).unlink()
+
+    def calls(self):
+        """What the stand-in for rt was called with, so far."""
+        calls = self.top / "rt.calls"
+        return calls.read_text().splitlines() if calls.exists() else []
+
+    def process(self):
+        """The process that the stand-in for rt has started and waits for."""
+        process = self.top / "rt.process"
+        return process.read_text() if process.exists() else ""
+
+    def write_program(self, script):
+        (self.top / "target" / "bin" / "sheet_program").write_text(f"#!/bin/sh\n{script}\n")
+
+
+def runs(process):
+    try:
+        return Path("/proc", process, "stat").read_text().rsplit(")", 1)[1].split()[0] not in "ZX"
+    except FileNotFoundError:
+        return False
+
+
 class InTree(unittest.TestCase):
     """Tests in a copy of the commands, with a stand-in for rt. All sources are older than what is built."""
 
@@ -358,7 +448,7 @@ class InTree(unittest.TestCase):
         self.tree = Tree(Path(folder.name))
 
     def run_sheet(self, **options):
-        return subprocess.run([sys.executable, self.tree.top / "sheet"], input=b"", capture_output=True, timeout=SECONDS,
+        return subprocess.run([self.tree.top / "sheet"], input=b"", capture_output=True, timeout=SECONDS,
                               env=self.tree.environment, **options)
 
     def check_answer(self, done):
@@ -386,15 +476,20 @@ class Building(InTree):
             "sheet:  1 of 3: low proved (unchanged since it was last proved)",
             "sheet:  2 of 3: middle proved (3 s)",
             "sheet:  3 of 3: sheet_program proved (10 s)"])
-        self.assertEqual((self.tree.top / "target" / "build-sheet_program.log").read_text(), Tree.PRINTED)
+        self.assertEqual((self.tree.top / "target" / "build-sheet_program.log").read_text(), Tree.PROVED)
         self.check_not_built(1)
         self.assertEqual(list(self.tree.top.rglob("__pycache__")), [])
 
+    def test_first_build_with_standard_error_closed(self):
+        """What would be said gets into no file."""
+        self.check_answer(self.run_sheet(preexec_fn=lambda: os.close(2)))
+        self.assertEqual((self.tree.top / "target" / "build-sheet_program.log").read_text(), Tree.PROVED)
+        self.assertEqual((self.tree.top / "target" / "build.lock").read_text(), "")
+
     def test_newer_sources(self):
-        for times, name in enumerate(("crates.txt", "crates/low/src/lib.rt", "crates/low/src", "crates/middle", "crates/sheet_program/stdin",
-                                      "crates/middle/src/inner/deep.rt"), 2):
-            if times == 2:
-                self.check_built(1)
+        self.check_built(1)
+        for times, name in enumerate(("crates.txt", "crates/low/src/lib.rt", "crates/low/src", "crates/middle",
+                                      "crates/sheet_program/stdin", "crates/middle/src/inner/deep.rt"), 2):
             with self.subTest(name):
                 self.tree.touch(name)
                 self.check_built(times)
@@ -417,8 +512,7 @@ class Building(InTree):
         stamp = self.tree.top / "target" / "stamp" / "sheet_program"
         stamp.parent.mkdir()
         stamp.write_text("as rt left it")
-        building_path = self.tree.top / "target" / "bin" / "sheet_program"
-        building_path.unlink()
+        (self.tree.top / "target" / "bin" / "sheet_program").unlink()
         self.check_built(2)
         self.assertFalse(stamp.exists())
 
@@ -441,7 +535,8 @@ class Building(InTree):
             self.tree.set_mode(mode)
             done = self.run_sheet()
             self.assertEqual((done.returncode, done.stdout), (2, b""))
-            for words in ("sheet: target/bin/sheet_program was not built", "ended with status 1", "from target/build-sheet_program.log:\n",
+            for words in ("sheet: target/bin/sheet_program was not built", "ended with status 1",
+                          "from target/build-sheet_program.log:\n",
                           "\n  crates/middle/src/lib.rt:3:7: error[x]: wrong\n", "\n  rt: middle NOT PROVED (exit 1, 0 s)\n",
                           "\n  rt: FAILED: middle\n"):
                 self.assertIn(words, done.stderr.decode())
@@ -455,41 +550,52 @@ class Building(InTree):
         self.assertIn(b"sheet: target/bin/sheet_program was not built", done.stderr)
 
     def test_no_rt(self):
-        self.tree.remove_rt()
+        self.tree.remove("rt")
         done = self.run_sheet()
         self.assertEqual((done.returncode, done.stdout), (2, b""))
         self.assertIn(b"no command `rt` is on the PATH", done.stderr)
 
+    def test_no_python(self):
+        self.tree.remove("python3")
+        done = self.run_sheet()
+        self.assertEqual((done.returncode, done.stdout), (2, b""))
+        self.assertIn(b"no command 'python3' is on the PATH", done.stderr)
+
     def test_no_rt_and_nothing_to_build(self):
         self.check_built(1)
-        self.tree.remove_rt()
+        self.tree.remove("rt")
         self.check_not_built(1)
 
     def test_bad_input_is_told_before_anything_is_built(self):
-        done = subprocess.run([sys.executable, self.tree.top / "sheet", "/no/such"], capture_output=True, env=self.tree.environment)
+        done = subprocess.run([self.tree.top / "sheet", "/no/such"], capture_output=True, env=self.tree.environment)
         self.assertEqual((done.returncode, done.stdout, self.tree.calls()), (2, b"", []))
 
-    def test_two_at_once(self):
-        self.tree.set_mode("slow")
-        command = [sys.executable, self.tree.top / "sheet", "/dev/null"]
-        running = [subprocess.Popen(command, stdout=subprocess.PIPE, stderr=subprocess.PIPE, env=self.tree.environment) for _ in range(3)]
-        said = []
-        for one in running:
-            out, err = one.communicate(timeout=SECONDS)
-            self.assertEqual((one.returncode, out), (0, Tree.ANSWER))
-            said.append(b"another command is building; this one waits for it" in err)
-        self.assertEqual((sorted(said), self.tree.calls()), ([False, True, True], ["check sheet_program"]))
+    def start(self):
+        return subprocess.Popen([self.tree.top / "sheet", "/dev/null"], stdout=subprocess.PIPE,
+                                stderr=subprocess.PIPE, env=self.tree.environment, preexec_fn=with_interrupts)
+
+    def test_several_at_once(self):
+        self.tree.set_mode("wait")
+        first = self.start()
+        wait_until(self.tree.calls, "rt does not start")
+        others = [self.start(), self.start()]
+        for other in others:
+            self.assertEqual(other.stderr.readline(), b"sheet: another command is building; this one waits for it\n")
+        (self.tree.top / "rt.go").touch()
+        for running in (first, *others):
+            out, _ = running.communicate(timeout=SECONDS)
+            self.assertEqual((running.returncode, out), (0, Tree.ANSWER))
+        self.assertEqual(self.tree.calls(), ["check sheet_program"])
 
     def test_interrupt(self):
         self.tree.set_mode("hang")
-        with subprocess.Popen([sys.executable, self.tree.top / "sheet", "/dev/null"], stdout=subprocess.PIPE, stderr=subprocess.PIPE,
-                              env=self.tree.environment, preexec_fn=with_interrupts) as running:
-            wait_until(lambda: self.tree.process() is not None, "rt does not start")
-            running.send_signal(signal.SIGINT)
-            out, err = running.communicate(timeout=SECONDS)
+        running = self.start()
+        wait_until(self.tree.process, "rt does not start")
+        running.send_signal(signal.SIGINT)
+        out, err = running.communicate(timeout=SECONDS)
         self.assertEqual((out, running.returncode), (b"", 130))
         self.assertNotIn(b"Traceback", err)
-        wait_until(lambda: not Path("/proc", self.tree.process()).exists(), "rt goes on")
+        wait_until(lambda: not runs(self.tree.process()), "rt goes on")
         self.tree.set_mode("")
         self.check_built(2)
 
@@ -542,13 +648,12 @@ class ProgramThatGivesNoWholeAnswer(InTree):
         self.tree.write_program("printf 'refused 7\\n'")
         done = self.run_sheet()
         self.assertEqual((done.returncode, done.stdout), (1, b"refused 7\n"))
-        self.assertIn(b"sheet: explanation of 7: the band tops", done.stderr)
+        self.assertIn(b"sheet: explanation of refused 7: the band tops", done.stderr)
         self.assertIn(b"the place was not found", done.stderr)
 
     def test_program_that_cannot_be_run(self):
         self.check_built(1)
-        program_path = self.tree.top / "target" / "bin" / "sheet_program"
-        program_path.write_bytes(b"\x7fELF")
+        (self.tree.top / "target" / "bin" / "sheet_program").write_bytes(b"\x7fELF")
         done = self.run_sheet()
         self.assertEqual((done.returncode, done.stdout), (2, b""))
         self.assertIn(b"sheet: the program cannot be run: ", done.stderr)

@@ -75,17 +75,10 @@ def newest_source(crate):
     return max(sources(crate), key=changed)
 
 
-def mark(crate):
-    """The file that is there while the crate's product is being built, and after a build that did not succeed."""
-    return TARGET / f"unfinished-{crate}"
-
-
 def out_of_date(product, crate):
-    """Whether the product at this path is missing, unfinished, or older than something that its crate is made from."""
+    """Whether the product at this path is missing, or older than something that its crate is made from."""
     product = Path(product)
-    if not product.exists() or mark(crate).exists():
-        return True
-    return changed(newest_source(crate)) > changed(product)
+    return not product.exists() or changed(newest_source(crate)) > changed(product)
 
 
 # ------------------------------------------------------------ building
@@ -102,8 +95,8 @@ def why(product):
     """Why the product is out of date, in words."""
     if not product.path.exists():
         return f"{shown(product.path)} is not there yet"
-    if mark(product.crate).exists():
-        return f"the last build of {shown(product.path)} did not end well"
+    if changed(product.path) == 0:
+        return f"{shown(product.path)} is of a build that did not succeed"
     return f"{shown(product.path)} is older than {shown(newest_source(product.crate))}"
 
 
@@ -153,20 +146,33 @@ def telling_lines(log):
     return "".join(f"\n  {line[:300]}" for line in (telling or lines)[-SHOWN:])
 
 
+def make_old(product):
+    """A product of no known state is older than every source."""
+    if product.path.exists():
+        os.utime(product.path, ns=(0, 0))
+
+
+def check_built(product, status):
+    if status or not product.path.exists():
+        log = log_of(product.crate)
+        raise Failure(f"{shown(product.path)} was not built: `rt {' '.join(product.words)}` ended with status {status};"
+                      f" from {shown(log)}:{telling_lines(log)}")
+
+
 def build(product, rt, lock, say):
     log = log_of(product.crate)
     say(f"{why(product)}, so it is proved and built now; the first time this takes some minutes, once."
         f" {shown(log)} has all that rt prints")
     if not product.path.exists():       # rt takes a crate with its stamp as built
         (TARGET / "stamp" / product.crate).unlink(missing_ok=True)
-    mark(product.crate).touch()
-    began = changed(mark(product.crate))
-    status = run_rt(rt, product, lock, say)
-    if status or not product.path.exists():
-        raise Failure(f"{shown(product.path)} was not built: `rt {' '.join(product.words)}` ended with status {status};"
-                      f" from {shown(log)}:{telling_lines(log)}")
+    log.touch()
+    began = changed(log)
+    try:
+        check_built(product, run_rt(rt, product, lock, say))
+    except BaseException:
+        make_old(product)
+        raise
     os.utime(product.path, ns=(began, began))       # what changes during the build is newer
-    mark(product.crate).unlink()
 
 
 def bring_up_to_date(product, say):

@@ -78,7 +78,7 @@ def answer_file(command, name, say):
     number = refusal_in(sheet)
     if number:
         write_out(sheet)
-        say(f"explanation of {number}: {refusals.explanation(number, data)}")
+        say(f"explanation of refused {number}: {refusals.explanation(number, data)}")
         return REFUSED
     printed, status = command.answer(data, sheet)
     write_out(printed)

@@ -34,7 +34,7 @@ def read_bytes(name, size):
         file = opened(name)
         try:
             if stat.S_ISDIR(os.fstat(file).st_mode):
-                raise Failure(f"{spoken(name)} is a folder; a line file is wanted, or a line text whose name ends in .txt")
+                raise Failure(f"{spoken(name)} is a directory; a line file is wanted, or a line text whose name ends in .txt")
             return read_at_most(file, size)
         finally:
             if name != STANDARD_INPUT:

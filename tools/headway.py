@@ -1,0 +1,30 @@
+"""Prints the headway of the last two trains of a line."""
+
+import sys
+
+sys.dont_write_bytecode = True
+
+from commands import Command, run  # noqa: E402
+from pairs import last_headway, seconds_up  # noqa: E402
+
+ABOUT = """\
+Prints the headway of the last two trains of a line, in whole seconds: how long
+after the first of the two the second may start, if only these two run. It is
+the second's start on a sheet of the two, rounded up: a headway rounded down
+would be one that the line does not have.
+"""
+ONE_TRAIN = 3
+
+
+def answer(data, sheet):
+    """What is printed of an accepted file, and the exit status."""
+    headway = last_headway(data)
+    if headway is None:
+        return b"one train, so no headway\n", ONE_TRAIN
+    return b"%d\n" % seconds_up(headway), 0
+
+
+HEADWAY = Command("headway", ABOUT, "the headway is printed", answer, "  3    the file has one train, so no headway\n")
+
+if __name__ == "__main__":
+    sys.exit(run(HEADWAY, sys.argv[1:]))
