@@ -19,8 +19,12 @@ OUT = TOP_FOLDER / "target"
 TEXTS = sorted(EXAMPLES.glob("*.txt"))
 
 
-def run(words, **options):
-    return subprocess.run(words, cwd=TOP_FOLDER, check=True, capture_output=True, **options).stdout
+def run(words, status=0, **options):
+    """What a command prints that ends with this status."""
+    done = subprocess.run(words, cwd=TOP_FOLDER, capture_output=True, **options)
+    if done.returncode != status:
+        raise AssertionError("%s ended with %d: %s" % (words, done.returncode, done.stderr))
+    return done.stdout
 
 
 def head_commands(source):
@@ -71,7 +75,8 @@ class Examples(unittest.TestCase):
             with self.subTest(source=source.name, line="refused"):
                 refused = OUT / "refused.line"
                 refused.write_bytes(packed(TEXTS[0]).read_bytes()[:-1])
-                self.assertEqual(run([made, refused]), b"refused 1\n")
+                self.assertEqual(run([made, refused], status=1), b"refused 1\n")
+                self.assertEqual(run([made], status=2), b"")
 
     def test_period(self):
         _, made = built(EXAMPLES / "c" / "period.c")
@@ -92,10 +97,10 @@ class Examples(unittest.TestCase):
                 rows = [[time for hold in each[:len(sold)] for time in getattr(hold, name)[:count]] for name in ("begins", "ends")]
                 try:
                     start, before = path_call(each[train], [1000000 * s for s in sold], *rows, 1000000 * low, 1000000 * high)
-                    right = "start before\n%d %d\n" % (start, before)
+                    right, status = "start before\n%d %d\n" % (start, before), 0
                 except Refused as refusal:
-                    right = "refused %d\n" % refusal.number
-                self.assertEqual(subprocess.run(words, cwd=TOP_FOLDER, capture_output=True, text=True).stdout, right)
+                    right, status = "refused %d\n" % refusal.number, 1
+                self.assertEqual(run(words, status, text=True), right)
         self.assertEqual(printed, b"start before\n784287634 2\n")
 
     def test_diagram(self):

@@ -145,7 +145,7 @@ class NoHeadway(unittest.TestCase):
         line.trains += line.trains[1:] * 2
         for data, words in ((write_line(line), "8: train 1, stop 2 of 2: point 1 is less than two points after"),
                             (b"", "1: the file is cut short"), (with_trains(65), "3: the number of trains is 65"),
-                            (with_trains(2) + b"\0", "2: 1 byte follows"), (bytes(20_000), "2: the input has more than 16,384 bytes")):
+                            (with_trains(2) + b"\0", "2: 1 byte follows"), (bytes(20_000), "2: the line file has more than 16,384 bytes")):
             done = headway(given=data)
             self.assertEqual((done.returncode, done.stdout), (1, ask(data)))
             self.assertTrue(done.stderr.decode().startswith(f"headway: explanation of refused {words}"))
@@ -160,7 +160,7 @@ class NoHeadway(unittest.TestCase):
         self.check_failed(headway("/no/such"), "/no/such cannot be read: No such file or directory")
         self.check_failed(headway(given=b"points 7\n"), "standard input is a line text, not a line file")
         self.check_failed(headway("a", "b"), "2 names are given")
-        self.check_failed(headway("--nope"), "there is no option --nope\nusage: headway [FILE | -]\n")
+        self.check_failed(headway("--nope"), "there is no option --nope; a file of that name is written ./--nope\nusage: headway [FILE | -]\n")
 
     def test_output_that_is_not_written(self):
         for count in (1, 2):

@@ -1,15 +1,19 @@
 #!/usr/bin/env python3
 """Tests of tools/linefile: python3 tests/test_linefile.py"""
 
-import importlib.machinery
-import importlib.util
+import fcntl
 import os
 import pty
 import random
+import resource
+import shutil
+import signal
 import struct
 import subprocess
 import sys
 import tempfile
+import termios
+import time
 import unittest
 
 ROOT = os.path.dirname(os.path.dirname(os.path.abspath(__file__)))
@@ -28,14 +32,8 @@ TRAIN = "train goods\nlength 600\n"
 sys.dont_write_bytecode = True
 sys.path.insert(0, os.path.dirname(TOOL))
 
+import linefile  # noqa: E402
 import linetext  # noqa: E402
-
-
-def load_tool():
-    loader = importlib.machinery.SourceFileLoader("linefile", TOOL)
-    module = importlib.util.module_from_spec(importlib.util.spec_from_loader("linefile", loader))
-    loader.exec_module(module)
-    return module
 
 
 def packed_numbers(numbers):
@@ -184,7 +182,7 @@ class Text(unittest.TestCase):
             self.assertEqual(pack_text(linetext.decode(data)), pack_text(plain))
 
     def test_example_in_the_help_packs(self):
-        text = load_tool().HELP
+        text = linefile.HELP
         example = text[text.index("  points 7"):text.index("  linefile pack")]
         numbers = unpacked_numbers(pack_text(example))
         self.assertEqual(numbers, SAMPLE_NUMBERS[:13] + [1] + SAMPLE_TRAIN)
@@ -201,7 +199,7 @@ TEXT_FAULTS = [
     (SIZES + "train 1.5", 5, "'1.5' is not a whole number"),
     ("points 65536", 1, "65536 does not fit 16 bits (0 to 65535)"),
     ("points -1", 1, "-1 does not fit 16 bits (0 to 65535)"),
-    ("points 1" + "0" * 5000, 1, "0 does not fit 16 bits (0 to 65535)"),
+    ("points 1" + "0" * 5000, 1, "0.. does not fit 16 bits (0 to 65535)"),
     (SIZES + "limit 0 99999", 5, "99999 does not fit 16 bits (0 to 65535)"),
     (SIZES + "balise 3 -1", 5, "-1 does not fit 16 bits (0 to 65535)"),
     (SIZES + "train 65536", 5, "65536 does not fit 16 bits (0 to 65535)"),
@@ -369,7 +367,7 @@ class Commands(unittest.TestCase):
                           ("pack", SAMPLE, "/no/such.line"), ("pack", SAMPLE, ROOT)]:
             done = run_tool(*arguments)
             self.assertEqual((done.returncode, done.stdout), (2, b""))
-            self.assertTrue(done.stderr.startswith(f"linefile: {arguments[-1]}: ".encode()))
+            self.assertRegex(done.stderr.decode(), f"^linefile: {arguments[-1]} (cannot be read|was not written|is a directory)")
 
     def test_reader_that_goes_away(self):
         ours, theirs = os.pipe()
@@ -377,9 +375,91 @@ class Commands(unittest.TestCase):
         try:
             done = subprocess.run([TOOL, "show"], input=packed_numbers(SAMPLE_NUMBERS),
                                   stdout=theirs, stderr=subprocess.PIPE)
-            self.assertEqual((done.returncode, done.stderr), (2, b""))
+            self.assertEqual((done.returncode, done.stderr), (2, b"linefile: standard output was not written: Broken pipe\n"))
         finally:
             os.close(theirs)
+
+    def test_output_that_is_not_written(self):
+        for arguments in [("pack", SAMPLE), ("show", "-"), ("--help",), ("pack", "--help"), ("--version",)]:
+            given = packed_numbers(SAMPLE_NUMBERS)
+            with open("/dev/full", "wb") as full:
+                done = subprocess.run([TOOL, *arguments], input=given, stdout=full, stderr=subprocess.PIPE)
+            self.assertEqual((done.returncode, done.stderr),
+                             (2, b"linefile: standard output was not written: No space left on device\n"))
+            done = subprocess.run([TOOL, *arguments], input=given, stderr=subprocess.PIPE, preexec_fn=lambda: os.close(1))
+            self.assertEqual((done.returncode, done.stderr), (2, b"linefile: standard output is closed, so nothing can be printed\n"))
+        self.assertEqual(run_tool("pack", SAMPLE, "/dev/full").stderr,
+                         b"linefile: /dev/full was not written: No space left on device\n")
+
+    def test_a_file_that_cannot_be_written_whole_keeps_what_it_had(self):
+        with tempfile.TemporaryDirectory() as folder:
+            name = os.path.join(folder, "old.line")
+            with open(name, "wb") as stream:
+                stream.write(b"before")
+            done = run_tool("pack", SAMPLE, name, preexec_fn=lambda: resource.setrlimit(resource.RLIMIT_FSIZE, (10, 10)))
+            self.assertEqual((done.returncode, done.stderr), (2, f"linefile: {name} was not written: File too large\n".encode()))
+            self.assertEqual((read(name), os.listdir(folder)), (b"before", ["old.line"]))
+
+    def test_access_rights(self):
+        with tempfile.TemporaryDirectory() as folder:
+            new, old, link = (os.path.join(folder, name) for name in ("new.line", "old.line", "link.line"))
+            with open(old, "wb"):
+                os.chmod(old, 0o640)
+            os.symlink(old, link)
+            for name in (new, link):
+                self.assertEqual(run_tool("pack", SAMPLE, name, umask=0o027).returncode, 0)
+                self.assertEqual(len(read(name)), 68)
+            self.assertEqual([os.stat(name).st_mode & 0o777 for name in (new, old)], [0o640, 0o640])
+            self.assertTrue(os.path.islink(link))
+
+    def test_texts_are_not_overwritten(self):
+        with tempfile.TemporaryDirectory() as folder:
+            text, other = os.path.join(folder, "a.text"), os.path.join(folder, "b.txt")
+            for name in (text, other):
+                shutil.copy(SAMPLE, name)
+            done = run_tool("pack", text, other)
+            self.assertEqual((done.returncode, done.stderr),
+                             (2, f"linefile: {other} ends in .txt, as texts do; a line file needs another name\n".encode()))
+            with open(text, "rb") as stream:
+                done = subprocess.run([TOOL, "pack", "-", text], stdin=stream, capture_output=True)
+            self.assertEqual(done.returncode, 2)
+            self.assertIn(b"is the text itself", done.stderr)
+            self.assertEqual([read(text), read(other)], 2 * [read(SAMPLE)])
+
+    def test_closed_standard_error(self):
+        done = subprocess.run([TOOL, "show"], input=b"", stdout=subprocess.PIPE, preexec_fn=lambda: os.close(2))
+        self.assertEqual((done.returncode, done.stdout), (1, b""))
+
+    def test_endless_input(self):
+        for word in ("pack", "show"):
+            done = run_tool(word, "/dev/zero")
+            self.assertEqual((done.returncode, done.stdout), (2, b""))
+            self.assertIn(b"/dev/zero has more than 16777216 bytes", done.stderr)
+
+    def test_directory_as_standard_input(self):
+        given = os.open(ROOT, os.O_RDONLY)
+        done = subprocess.run([TOOL, "show"], stdin=given, capture_output=True)
+        os.close(given)
+        self.assertEqual((done.returncode, done.stdout, done.stderr),
+                         (2, b"", b"linefile: standard input is a directory, not a file\n"))
+
+    def test_interrupt(self):
+        ours, theirs = os.pipe()
+        with subprocess.Popen([TOOL, "pack"], stdin=ours, stdout=subprocess.PIPE, stderr=subprocess.PIPE,
+                              preexec_fn=lambda: signal.signal(signal.SIGINT, signal.SIG_DFL)) as running:
+            os.write(theirs, b"points")
+            while fcntl.ioctl(ours, termios.FIONREAD, bytes(4)) != bytes(4):
+                time.sleep(0.001)
+            running.send_signal(signal.SIGINT)
+            self.assertEqual((*running.communicate(timeout=60), running.returncode), (b"", b"", 130))
+        os.close(ours)
+        os.close(theirs)
+
+    def test_long_words_are_cut(self):
+        for text in (f"points {'7' * 10 ** 6}", f"{'x' * 10 ** 6} 7", f"train {'x' * 10 ** 6}", f"points {'x' * 10 ** 6}"):
+            done = run_tool("pack", given=text.encode())
+            self.assertEqual(done.returncode, 2)
+            self.assertLess(len(done.stderr), 300)
 
     def test_help(self):
         for arguments in [("--help",), ("pack", "--help"), ("show", "--help")]:

@@ -20,6 +20,7 @@ sys.dont_write_bytecode = True
 from damage_ways import questions  # noqa: E402
 from yardstick import PROGRAM_BOUND, Line, Train, accepted_line, broken_rules, number_of, parse, write_line  # noqa: E402
 
+from linetext import from_bytes, read_text, write_text  # noqa: E402
 from records import split_records, with_records  # noqa: E402
 from refusals import RULES, explanation, first_broken  # noqa: E402
 
@@ -123,7 +124,7 @@ class Finding(unittest.TestCase):
         self.assertEqual(found.number if found else 0, number)
         if found:
             self.assertIn(str(found.value), re.findall("[0-9]+", found.words))
-            self.assertEqual(explanation(number, data) == found.words, len(data) <= PROGRAM_BOUND or number != 2)
+            self.assertEqual(explanation(number, data).startswith(found.words), len(data) <= PROGRAM_BOUND or number != 2)
         if found and found.train:
             self.check_train(data, found)
         if found and found.entry:
@@ -182,10 +183,34 @@ class Explanations(unittest.TestCase):
         self.assertTrue(all(RULES.values()))
 
     def test_the_program_bound_is_no_rule(self):
-        words = "the input has more than 16,384 bytes, so no rule was checked"
+        words = "the line file has more than 16,384 bytes, so no rule was checked"
         self.assertEqual(explanation(2, bytes(PROGRAM_BOUND + 1)), words)
         self.assertNotEqual(explanation(2, changed() + b"\0"), words)
         self.assertNotEqual(explanation(3, bytes(PROGRAM_BOUND)), words)
+
+    def test_line_of_the_text(self):
+        """The line that is named has the word of the entry, and is the one of its number among them in its train."""
+        for number, data, part, words in PARTS:
+            if number < 3 or part.startswith("number of") and part != "number of points":
+                continue
+            with self.subTest(words):
+                found, text = first_broken(data), write_text(from_bytes(data))
+                told = explanation(number, data, read_text(text))
+                at = int(re.fullmatch(re.escape(words) + r" \(line ([0-9]+) of the text\)", told)[1])
+                before = text.splitlines()[:at]
+                self.assertEqual(before[-1].split()[0], found.word)
+                trains = [place for place, line in enumerate(before) if line.startswith("train ")]
+                self.assertEqual(len(trains), found.train or 0)
+                same = [line for line in before[trains[-1] if trains else 0:] if line.split()[:1] == [found.word]]
+                self.assertEqual(len(same), found.entry or 1)
+
+    def test_no_line_for_a_count(self):
+        data = changed(limit_points=ROW, limits=ROW)
+        self.assertEqual(explanation(3, data, from_bytes(data)), "the number of limits is 65, not 1 to 64")
+
+    def test_other_texts_are_told(self):
+        for data, told in ((b"A page about something else.\n", True), (b"\t", False), (b"\xff" + 20 * b"text ", False), (b"", False)):
+            self.assertEqual("it looks like a text" in explanation(number_of(accepted_line, data), data), told)
 
     def test_another_number_than_the_one_found(self):
         for data in (changed(), changed(length=101)):

@@ -212,7 +212,7 @@ class Refused(unittest.TestCase):
             self.assertEqual((done.returncode, done.stdout), (1, b"refused 1\n"))
 
     def test_more_bytes_than_the_bound(self):
-        words = "the input has more than 16,384 bytes, so no rule was checked"
+        words = "the line file has more than 16,384 bytes, so no rule was checked"
         self.check(b"\x01" * (PROGRAM_BOUND + 1), words)
         self.check(b"\x01" * (16 * PROGRAM_BOUND), words)
         done = sheet("/dev/zero")
@@ -269,9 +269,9 @@ class BadInput(unittest.TestCase):
     def test_line_file_in_place_of_a_line_text(self):
         with tempfile.TemporaryDirectory() as folder:
             Path(folder, "sample.txt").write_bytes(SAMPLE)
-            self.check(sheet("sample.txt", cwd=folder), "sample.txt holds a line file, not a line text")
+            self.check(sheet("sample.txt", cwd=folder), "sample.txt has a byte 0, so it is no line text in UTF-8")
             Path(folder, "zero.txt").symlink_to("/dev/zero")
-            self.check(sheet("zero.txt", cwd=folder), "zero.txt holds a line file")
+            self.check(sheet("zero.txt", cwd=folder), "zero.txt has a byte 0")
 
     def test_faults_of_the_line_text(self):
         with tempfile.TemporaryDirectory() as folder:
@@ -561,6 +561,25 @@ class Building(InTree):
         self.assertEqual((done.returncode, done.stdout), (2, b""))
         self.assertIn(b"no command 'python3' is on the PATH", done.stderr)
 
+    def test_old_python(self):
+        """Every Python 3 can read what is started first; an old one is told there."""
+        words = ("import sys; sys.version_info = (3, 10, 12); sys.path.insert(0, 'tools'); import start;"
+                 " sys.exit(start.start('sheet', []))")
+        done = subprocess.run([sys.executable, "-B", "-c", words], cwd=self.tree.top, capture_output=True, timeout=SECONDS)
+        self.assertEqual((done.returncode, done.stdout), (2, b""))
+        self.assertIn(b"sheet: Python 3.11 or later is needed; python3 is ", done.stderr)
+
+    def test_settings_of_python_do_not_count(self):
+        self.check_built(1)
+        self.tree.environment.update(PYTHONHOME="/no/such", PYTHONIOENCODING="none")
+        self.check_not_built(1)
+
+    def test_target_that_cannot_be_written(self):
+        (self.tree.top / "target").write_text("no directory")
+        done = self.run_sheet()
+        self.assertEqual((done.returncode, done.stdout, self.tree.calls()), (2, b"", []))
+        self.assertIn(b"sheet: a build is due, and cannot write its files: ", done.stderr)
+
     def test_no_rt_and_nothing_to_build(self):
         self.check_built(1)
         self.tree.remove("rt")
@@ -587,17 +606,24 @@ class Building(InTree):
             self.assertEqual((running.returncode, out), (0, Tree.ANSWER))
         self.assertEqual(self.tree.calls(), ["check sheet_program"])
 
-    def test_interrupt(self):
+    def check_ended(self, by, status):
+        """The signal ends the command and rt with it; the next command builds."""
         self.tree.set_mode("hang")
         running = self.start()
         wait_until(self.tree.process, "rt does not start")
-        running.send_signal(signal.SIGINT)
+        running.send_signal(by)
         out, err = running.communicate(timeout=SECONDS)
-        self.assertEqual((out, running.returncode), (b"", 130))
+        self.assertEqual((out, running.returncode), (b"", status))
         self.assertNotIn(b"Traceback", err)
         wait_until(lambda: not runs(self.tree.process()), "rt goes on")
         self.tree.set_mode("")
         self.check_built(2)
+
+    def test_interrupt(self):
+        self.check_ended(signal.SIGINT, 130)
+
+    def test_other_signals(self):
+        self.check_ended(signal.SIGTERM, 143)
 
 
 class Closure(InTree):

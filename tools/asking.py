@@ -4,16 +4,9 @@ import re
 import subprocess
 
 from building import PROGRAM
-from messages import Failure, reason
+from messages import Failure, end_of, reason
 
 WHOLE_ANSWER = re.compile(rb"refused [0-9]+\n|train start run block\n(?:[0-9]+ [0-9]+ [0-9]+ [0-9]+\n)+")
-
-
-def end_of(status):
-    """How a process ended, in words."""
-    if status < 0:
-        return f"was ended by signal {-status}"
-    return f"ended with status {status}"
 
 
 def ask(data, program=PROGRAM.path):

@@ -13,7 +13,7 @@ import subprocess
 from pathlib import Path
 from typing import NamedTuple
 
-from messages import Failure
+from messages import Failure, end_of, reason
 
 TOP = Path(__file__).resolve().parent.parent
 TARGET = TOP / "target"
@@ -103,8 +103,12 @@ def why(product):
 @contextlib.contextmanager
 def only_builder(say):
     """Holds the lock of this repository's builds. rt gets it too, so that it is kept as long as rt runs."""
-    TARGET.mkdir(exist_ok=True)
-    with open(TARGET / "build.lock", "w") as lock:
+    try:
+        TARGET.mkdir(exist_ok=True)
+        lock = open(TARGET / "build.lock", "w")
+    except OSError as error:
+        raise Failure(f"a build is due, and cannot write its files: {reason(error)}") from None
+    with lock:
         try:
             fcntl.flock(lock, fcntl.LOCK_EX | fcntl.LOCK_NB)
         except BlockingIOError:
@@ -155,7 +159,7 @@ def make_old(product):
 def check_built(product, status):
     if status or not product.path.exists():
         log = log_of(product.crate)
-        raise Failure(f"{shown(product.path)} was not built: `rt {' '.join(product.words)}` ended with status {status};"
+        raise Failure(f"{shown(product.path)} was not built: `rt {' '.join(product.words)}` {end_of(status)};"
                       f" from {shown(log)}:{telling_lines(log)}")
 
 

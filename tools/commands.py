@@ -1,21 +1,23 @@
 """What the commands have in common that print something of a line file: arguments, refusals and exit status."""
 
 import os
+import signal
+import sys
 from typing import Callable, NamedTuple
 
 import refusals
 from asking import ask, refusal_in
 from building import PROGRAM, bring_up_to_date
 from header import version_line
-from inputs import STANDARD_INPUT, line_file
+from inputs import STANDARD_INPUT, given
 from messages import Failure, keep_place_of_error, reason, speaker
 from output import need_output, write_out
 
-REFUSED, FAILED, INTERRUPTED = 1, 2, 130
+REFUSED, FAILED = 1, 2
 
 ARGUMENTS = """\
   FILE       a line file, or a line text whose name ends in .txt
-  -          a line file on standard input; so it is without an argument
+  -          a line file on standard input; the same without an argument
   --help     prints this
   --version  prints the version and the rules that are in force
 """
@@ -72,15 +74,15 @@ def input_name(command, names):
 
 def answer_file(command, name, say):
     """Prints the answer about one file. What is wrong with the input is said before anything is built."""
-    data = line_file(name)
+    asked = given(name)
     bring_up_to_date(PROGRAM, say)
-    sheet = ask(data)
+    sheet = ask(asked.data)
     number = refusal_in(sheet)
     if number:
         write_out(sheet)
-        say(f"explanation of refused {number}: {refusals.explanation(number, data)}")
+        say(f"explanation of refused {number}: {refusals.explanation(number, *asked)}")
         return REFUSED
-    printed, status = command.answer(data, sheet)
+    printed, status = command.answer(asked.data, sheet)
     write_out(printed)
     return status
 
@@ -93,14 +95,21 @@ def obey(command, arguments, say):
     elif "--version" in options:
         write_out(version_line().encode())
     elif options:
-        raise Failure(f"there is no option {options[0]}\n{command.usage()}")
+        raise Failure(f"there is no option {options[0]}; a file of that name is written ./{options[0]}\n{command.usage()}")
     else:
         return answer_file(command, input_name(command, names), say)
     return 0
 
 
+def end_by(number, frame):
+    """Ends the command, and what it has started, when it gets this signal."""
+    sys.exit(128 + number)
+
+
 def run(command, arguments):
     """Does what the arguments ask, and gives the exit status."""
+    for number in (signal.SIGTERM, signal.SIGHUP):
+        signal.signal(number, end_by)
     keep_place_of_error()
     say = speaker(command.name)
     try:
@@ -109,6 +118,4 @@ def run(command, arguments):
         say(failure)
     except OSError as error:
         say(reason(error))
-    except KeyboardInterrupt:
-        return INTERRUPTED
     return FAILED

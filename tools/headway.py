@@ -1,11 +1,7 @@
 """Prints the headway of the last two trains of a line."""
 
-import sys
-
-sys.dont_write_bytecode = True
-
-from commands import Command, run  # noqa: E402
-from pairs import last_headway, seconds_up  # noqa: E402
+from commands import Command, run
+from pairs import last_headway, seconds_up
 
 ABOUT = """\
 Prints the headway of the last two trains of a line, in whole seconds: how long
@@ -26,5 +22,6 @@ def answer(data, sheet):
 
 HEADWAY = Command("headway", ABOUT, "the headway is printed", answer, "  3    the file has one train, so no headway\n")
 
-if __name__ == "__main__":
-    sys.exit(run(HEADWAY, sys.argv[1:]))
+
+def main(arguments):
+    return run(HEADWAY, arguments)

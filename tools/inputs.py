@@ -3,6 +3,7 @@
 import codecs
 import os
 import stat
+from typing import NamedTuple
 
 import linetext
 from messages import Failure
@@ -13,7 +14,7 @@ STANDARD_INPUT = "-"
 
 
 def spoken(name):
-    return "standard input" if name == STANDARD_INPUT else name
+    return "standard input" if name == STANDARD_INPUT else name or "a file without a name"
 
 
 def read_at_most(file, size):
@@ -34,7 +35,7 @@ def read_bytes(name, size):
         file = opened(name)
         try:
             if stat.S_ISDIR(os.fstat(file).st_mode):
-                raise Failure(f"{spoken(name)} is a directory; a line file is wanted, or a line text whose name ends in .txt")
+                raise Failure(f"{spoken(name)} is a directory, not a file")
             return read_at_most(file, size)
         finally:
             if name != STANDARD_INPUT:
@@ -60,23 +61,30 @@ def read_line_file(name):
     data = read_bytes(name, PROGRAM_BOUND + 1)
     if is_line_text(data):
         raise Failure(f"{spoken(name)} is a line text, not a line file: give it as a file whose name ends in .txt,"
-                      " or pack it first with `tools/linefile pack`")
+                      " or pack it first, as in `tools/linefile pack < TEXT | ./sheet`")
     return data
 
 
-def pack_text_file(name):
+def read_line_text(name):
     data = read_bytes(name, TEXT_BOUND + 1)
     if b"\0" in data:
-        raise Failure(f"{name} holds a line file, not a line text: give it a name that does not end in .txt")
+        raise Failure(f"{name} has a byte 0, so it is no line text in UTF-8; a line file needs a name that does not end in .txt")
     if len(data) > TEXT_BOUND:
         raise Failure(f"{name} has more than {TEXT_BOUND} bytes, which no line text has")
     try:
-        return linetext.to_bytes(linetext.read_text(linetext.decode(data)))
+        return linetext.read_text(linetext.decode(data))
     except linetext.Fault as fault:
         raise Failure(f"{name}: {fault}") from None
 
 
-def line_file(name):
-    """The bytes of the line file that the name stands for, cut behind the byte that passes the program's bound."""
-    data = pack_text_file(name) if name.endswith(".txt") else read_line_file(name)
-    return data[:PROGRAM_BOUND + 1]
+class Given(NamedTuple):
+    """The line file that a command is asked about."""
+    data: bytes                         # cut behind the byte that passes the program's bound
+    line: linetext.Line = None          # what its text says, where it has one
+
+
+def given(name):
+    if not name.endswith(".txt"):
+        return Given(read_line_file(name))
+    line = read_line_text(name)
+    return Given(linetext.to_bytes(line)[:PROGRAM_BOUND + 1], line)

@@ -4,6 +4,7 @@ import re
 import struct
 
 GREATEST = 65535
+SHOWN = 40                              # characters of a wrong word
 CLASS_NAMES = ("intercity", "stopping", "goods")
 
 LINE_SIZES = ("points", "step", "set-up", "release")
@@ -40,6 +41,7 @@ class Section:
     def __init__(self, sizes, pairs):
         self.sizes = dict.fromkeys(sizes)
         self.pairs = {word: [] for word in pairs}
+        self.text_lines = {}            # where each size, and each entry of a list, counted from 1, stands in the text
 
     def missing(self):
         return [word for word, value in self.sizes.items() if value is None]
@@ -55,7 +57,7 @@ class Train(Section):
     def __init__(self, train_class, text_line=None):
         super().__init__(TRAIN_SIZES, TRAIN_PAIRS)
         self.train_class = train_class
-        self.text_line = text_line
+        self.text_lines["train", None] = text_line
 
 
 # ------------------------------------------------------------ text to line
@@ -76,13 +78,18 @@ def numbered_words(text):
             yield number, words
 
 
+def cut(word):
+    """A word as a message shows it."""
+    return word if len(word) <= SHOWN else word[:SHOWN] + ".."
+
+
 def whole_number(word):
     if not re.fullmatch("-?[0-9]+", word):
-        raise Fault(f"{word!r} is not a whole number")
+        raise Fault(f"{cut(word)!r} is not a whole number")
     digits = word.lstrip("-").lstrip("0") or "0"
     negative = word.startswith("-") and digits != "0"
     if negative or len(digits) > len(str(GREATEST)) or int(digits) > GREATEST:
-        raise Fault(f"{word} does not fit 16 bits (0 to {GREATEST})")
+        raise Fault(f"{cut(word)} does not fit 16 bits (0 to {GREATEST})")
     return int(digits)
 
 
@@ -90,7 +97,7 @@ def class_number(word):
     if word in CLASS_NAMES:
         return CLASS_NAMES.index(word)
     if word[0].isalpha():
-        raise Fault(f"unknown class {word!r}; write {', '.join(CLASS_NAMES)} or a number")
+        raise Fault(f"unknown class {cut(word)!r}; write {', '.join(CLASS_NAMES)} or a number")
     return whole_number(word)
 
 
@@ -123,13 +130,16 @@ def section_for(word, line):
     return line.trains[-1]
 
 
-def enter(section, word, numbers):
+def enter(section, word, numbers, text_line):
+    entry = None
     if word in section.pairs:
         append(section.pairs[word], tuple(numbers), word)
+        entry = len(section.pairs[word])
     elif section.sizes[word] is None:
         section.sizes[word] = numbers[0]
     else:
         raise Fault(f"{word!r} is given twice")
+    section.text_lines[word, entry] = text_line
 
 
 def open_train(line, values, number):
@@ -140,13 +150,13 @@ def open_train(line, values, number):
 def take(line, words, number):
     word, values = words[0], words[1:]
     if word not in VALUES:
-        raise Fault(f"unknown word {word!r}; known: {', '.join(VALUES)}")
+        raise Fault(f"unknown word {cut(word)!r}; known: {', '.join(VALUES)}")
     if word == "train":
         open_train(line, values, number)
         return
     section = section_for(word, line)
     check_count(word, values)
-    enter(section, word, [whole_number(value) for value in values])
+    enter(section, word, [whole_number(value) for value in values], number)
 
 
 def check_complete(section, beginning):
@@ -164,10 +174,10 @@ def at_line(number, call, *arguments):
 
 
 def check_sizes(line, last):
-    end = line.trains[0].text_line if line.trains else last
+    end = line.trains[0].text_lines["train", None] if line.trains else last
     at_line(end, check_complete, line, "the description of the line ends here")
     for train in line.trains:
-        at_line(train.text_line, check_complete, train, "this train is")
+        at_line(train.text_lines["train", None], check_complete, train, "this train is")
 
 
 def read_text(text):

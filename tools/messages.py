@@ -17,6 +17,11 @@ def speaker(command):
     return say
 
 
+def end_of(status):
+    """How a process ended, in words."""
+    return f"was ended by signal {-status}" if status < 0 else f"ended with status {status}"
+
+
 def reason(error):
     """An error of the system in words."""
     words = error.strerror or str(error)

@@ -1,8 +1,9 @@
-"""Writes a command's answer to standard output, whole or with a failure."""
+"""Writes what a command answers, whole or with a failure: to standard output, or to a file."""
 
 import os
+import tempfile
 
-from messages import Failure, reason
+from messages import Failure
 
 
 def need_output():
@@ -12,9 +13,55 @@ def need_output():
         raise Failure("standard output is closed, so nothing can be printed") from None
 
 
-def write_out(data):
+def write_all(place, data):
     while data:
-        try:
-            data = data[os.write(1, data):]
-        except OSError as error:
-            raise Failure(f"standard output was not written: {reason(error)}") from None
+        data = data[os.write(place, data):]
+
+
+def write_out(data):
+    try:
+        write_all(1, data)
+    except OSError as error:
+        raise Failure(f"standard output was not written: {error.strerror}") from None
+
+
+def usual_mode():
+    """The access rights of a new file."""
+    mask = os.umask(0)
+    os.umask(mask)
+    return 0o666 & ~mask
+
+
+def replace_file(path, data):
+    """Writes another file beside it, which then takes its place with its access rights."""
+    mode = os.stat(path).st_mode & 0o7777 if os.path.exists(path) else usual_mode()
+    place, beside = tempfile.mkstemp(dir=os.path.dirname(path))
+    try:
+        write_all(place, data)
+        os.fchmod(place, mode)
+        os.replace(beside, path)
+    except BaseException:
+        os.unlink(beside)
+        raise
+    finally:
+        os.close(place)
+
+
+def write_device(path, data):
+    place = os.open(path, os.O_WRONLY)
+    try:
+        write_all(place, data)
+    finally:
+        os.close(place)
+
+
+def write_file(name, data):
+    """Writes a file, which keeps what it had where this fails. A device, which is no plain file, is written as it is."""
+    path = os.path.realpath(name)
+    try:
+        if os.path.exists(path) and not os.path.isfile(path):
+            write_device(path, data)
+        else:
+            replace_file(path, data)
+    except OSError as error:
+        raise Failure(f"{name} was not written: {error.strerror}") from None

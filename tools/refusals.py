@@ -31,6 +31,7 @@ class Broken(NamedTuple):
     value: int                          # the number that breaks it
     words: str
     entry: int = None
+    word: str = None                    # that the entry has in a line text
     number: int = None                  # of the rule
     train: int = None
 
@@ -40,17 +41,17 @@ def beside(pairs):
     return zip(count(1), [None, *pairs], pairs)
 
 
-def beyond(part, value, least, greatest, unit=""):
+def beyond(part, value, least, greatest, unit="", word=None):
     """The size's part of rule 3, if it is broken."""
     if not least <= value <= greatest:
-        yield Broken(part, value, f"the {part} is {value}{unit}, not {least} to {greatest}{unit}")
+        yield Broken(part, value, f"the {part} is {value}{unit}, not {least} to {greatest}{unit}", word=word)
 
 
 # ------------------------------------------------------------ rules of the line
 
 def line_sizes(line):
-    yield from beyond("number of points", line.sizes["points"], 3, 4096)
-    yield from beyond("step", line.sizes["step"], 1, 100, " m")
+    yield from beyond("number of points", line.sizes["points"], 3, 4096, word="points")
+    yield from beyond("step", line.sizes["step"], 1, 100, " m", "step")
     yield from beyond("number of limits", len(line.pairs["limit"]), 1, 64)
     yield from beyond("number of blocks", len(line.pairs["block"]), 1, 32)
     yield from beyond("number of balises", len(line.pairs["balise"]), 0, 64)
@@ -106,8 +107,8 @@ def balises(line):
 # ------------------------------------------------------------ rules of a train
 
 def train_sizes(line, train):
-    yield from beyond("class", train.train_class, 0, 2)
-    yield from beyond("length", train.sizes["length"], 1, 1000, " m")
+    yield from beyond("class", train.train_class, 0, 2, word="train")
+    yield from beyond("length", train.sizes["length"], 1, 1000, " m", "length")
     yield from beyond("number of bands", len(train.pairs["band"]), 1, 8)
     yield from beyond("number of stops", len(train.pairs["stop"]), 0, 32)
 
@@ -140,7 +141,7 @@ def room(line, train):
     steps = -(-length // step)
     if end + steps > last:
         yield Broken("room", length, f"its length of {length} m takes {steps} steps of {step} m, which from the last block's end"
-                                     f" at point {end} reach point {end + steps}, beyond the last point, {last}")
+                                     f" at point {end} reach point {end + steps}, beyond the last point, {last}", word="length")
 
 
 # ------------------------------------------------------------ the first broken rule
@@ -149,7 +150,7 @@ def of_line(number, rule, line, word=None):
     """The rule's broken parts, the place in front of the words."""
     for found in rule(line):
         place = f"{word} {found.entry} of {len(line.pairs[word])}: " if word else ""
-        yield found._replace(number=number, words=place + found.words)
+        yield found._replace(number=number, words=place + found.words, word=word or found.word)
 
 
 def of_trains(number, rule, line, word=None):
@@ -157,7 +158,7 @@ def of_trains(number, rule, line, word=None):
     for k, train in enumerate(line.trains, 1):
         for found in rule(line, train):
             place = f", {word} {found.entry} of {len(train.pairs[word])}" if word else ""
-            yield found._replace(number=number, words=f"train {k}{place}: {found.words}", train=k)
+            yield found._replace(number=number, words=f"train {k}{place}: {found.words}", word=word or found.word, train=k)
 
 
 def broken_from_3(line):
@@ -192,11 +193,29 @@ def first_broken(data):
     return next(broken_from_3(line), None)
 
 
-def explanation(number, data):
-    """Why the program refused these bytes by this number, in words."""
+def place_in_text(found, line):
+    """Where the text of the line has what was found, in words, if it stands in one place."""
+    section = line.trains[found.train - 1] if found.train else line
+    number = section.text_lines.get((found.word, found.entry))
+    return f" (line {number} of the text)" if number else ""
+
+
+def is_any_text(data):
+    """Whether these bytes are printable text with letters in it, of whatever kind."""
+    try:
+        text = data.decode()
+    except UnicodeDecodeError:
+        return False
+    return any(map(str.isalpha, text)) and all(letter.isprintable() or letter.isspace() for letter in text)
+
+
+def explanation(number, data, line=None):
+    """Why the program refused these bytes by this number, in words; `line` is what their text says, where they have one."""
     if number == 2 and len(data) > PROGRAM_BOUND:
-        return f"the input has more than {PROGRAM_BOUND:,} bytes, so no rule was checked"
+        return f"the line file has more than {PROGRAM_BOUND:,} bytes, so no rule was checked"
     found = first_broken(data)
-    if found and found.number == number:
-        return found.words
-    return f"{RULES.get(number, 'there is no such rule of a file')}; the place was not found"
+    if not found or found.number != number:
+        return f"{RULES.get(number, 'there is no such rule of a file')}; the place was not found"
+    if line:
+        return found.words + place_in_text(found, line)
+    return found.words + ("; it looks like a text, and a line text needs a name that ends in .txt" if is_any_text(data) else "")

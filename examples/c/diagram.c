@@ -23,7 +23,7 @@ int main(int argc, char **argv)
     FILE *in = argc == 3 ? fopen(argv[1], "rb") : NULL;
     if (in == NULL) {
         fprintf(stderr, "usage: diagram_c LINEFILE TRAIN, the first train is 1\n");
-        return 1;
+        return 2;
     }
     size_t len = fread(file, 1, sizeof file, in);
     fclose(in);
@@ -32,7 +32,7 @@ int main(int argc, char **argv)
     vr_written answer = vr_diagram(file, len, k, bytes, sizeof bytes);
     if (answer.number != VR_ACCEPTED) {
         printf("refused %" PRIu64 "\n", answer.number);
-        return 0;
+        return 1;
     }
     printf("position speed arrival dot\n");
     for (const uint8_t *point = bytes; point < bytes + answer.bytes; point += VR_POINT_SIZE) {

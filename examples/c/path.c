@@ -51,7 +51,7 @@ int main(int argc, char **argv)
     FILE *in = argc >= FIRST_START && sold <= VR_MOST_TRAINS ? fopen(argv[1], "rb") : NULL;
     if (in == NULL) {
         fprintf(stderr, "usage: path_c LINEFILE TRAIN FROM TO START.., the first train is 1\n");
-        return 1;
+        return 2;
     }
     size_t len = fread(file, 1, sizeof file, in);
     fclose(in);
@@ -67,7 +67,7 @@ int main(int argc, char **argv)
     }
     if (answer.number != VR_ACCEPTED) {
         printf("refused %" PRIu64 "\n", answer.number);
-        return 0;
+        return 1;
     }
     printf("start before\n%" PRIu64 " %" PRIu64 "\n", answer.start, answer.before);
     return 0;

@@ -35,7 +35,7 @@ int main(int argc, char **argv)
     FILE *in = argc == 2 ? fopen(argv[1], "rb") : NULL;
     if (in == NULL) {
         fprintf(stderr, "usage: period_c LINEFILE\n");
-        return 1;
+        return 2;
     }
     size_t len = fread(file, 1, sizeof file, in);
     fclose(in);
@@ -46,7 +46,7 @@ int main(int argc, char **argv)
         answer = vr_period(&sheet);
     if (answer.number != VR_ACCEPTED) {
         printf("refused %" PRIu64 "\n", answer.number);
-        return 0;
+        return 1;
     }
     printf("period percent\n%" PRIu64 " %" PRIu64 "\n", answer.period, answer.percent);
     return 0;

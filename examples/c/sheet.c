@@ -18,7 +18,7 @@ int main(int argc, char **argv)
     FILE *in = argc == 2 ? fopen(argv[1], "rb") : NULL;
     if (in == NULL) {
         fprintf(stderr, "usage: sheet_c LINEFILE\n");
-        return 1;
+        return 2;
     }
     size_t len = fread(file, 1, sizeof file, in);
     fclose(in);
@@ -28,7 +28,7 @@ int main(int argc, char **argv)
         answer = vr_rows(file, len, starts, VR_MOST_TRAINS, runs, VR_MOST_TRAINS, blocks, VR_MOST_TRAINS);
     if (answer.number != VR_ACCEPTED) {
         printf("refused %" PRIu64 "\n", answer.number);
-        return 0;
+        return 1;
     }
     printf("train start run block\n");
     for (uint64_t k = 0; k < answer.trains; ++k)

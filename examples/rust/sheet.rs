@@ -70,13 +70,13 @@ const MOST_BYTES: usize = 16384;
 fn main() {
     let Some(name) = std::env::args().nth(1) else {
         eprintln!("usage: sheet_rust LINEFILE");
-        std::process::exit(1);
+        std::process::exit(2);
     };
     let file = match std::fs::read(&name) {
         Ok(bytes) => bytes,
         Err(error) => {
             eprintln!("{name}: {error}");
-            std::process::exit(1);
+            std::process::exit(2);
         }
     };
     let answer = if file.len() > MOST_BYTES {
@@ -85,7 +85,10 @@ fn main() {
         vellumrill::rows(&file)
     };
     match answer {
-        Err(number) => println!("refused {number}"),
+        Err(number) => {
+            println!("refused {number}");
+            std::process::exit(1)
+        }
         Ok(rows) => {
             println!("train start run block");
             for (k, row) in rows.iter().enumerate() {

@@ -1,0 +1,22 @@
+"""Starts a command: start.py NAME ARGUMENT.. Every Python 3 can read this file, so that one which is too old is told."""
+
+import os
+import sys
+
+NEEDED = (3, 11)
+FAILED, INTERRUPTED = 2, 130
+
+
+def start(name, arguments):
+    if sys.version_info < NEEDED:
+        os.write(2, ("%s: Python 3.11 or later is needed; python3 is %s\n" % (name, sys.version.split()[0])).encode())
+        return FAILED
+    sys.dont_write_bytecode = True
+    try:
+        return __import__(name).main(arguments)
+    except KeyboardInterrupt:
+        return INTERRUPTED
+
+
+if __name__ == "__main__":
+    sys.exit(start(sys.argv[1], sys.argv[2:]))
