@@ -109,7 +109,8 @@ def end_by(number, frame):
 def run(command, arguments):
     """Does what the arguments ask, and gives the exit status."""
     for number in (signal.SIGTERM, signal.SIGHUP):
-        signal.signal(number, end_by)
+        if signal.getsignal(number) != signal.SIG_IGN:      # as behind nohup
+            signal.signal(number, end_by)
     keep_place_of_error()
     say = speaker(command.name)
     try:

@@ -6,7 +6,7 @@ import os
 from header import version_line
 from inputs import STANDARD_INPUT, TEXT_BOUND, read_bytes, spoken
 from linetext import Fault, decode, from_bytes, read_text, to_bytes, write_text
-from messages import Failure, keep_place_of_error, speaker
+from messages import Failure, keep_place_of_error, reason, speaker
 from output import need_output, write_file, write_out
 
 STANDARD_OUTPUT = "-"
@@ -148,5 +148,8 @@ def main(arguments):
         return fault.status
     except Failure as failure:
         say(failure)
+        return FAILED
+    except OSError as error:
+        say(reason(error))
         return FAILED
     return 0
