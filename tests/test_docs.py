@@ -74,6 +74,7 @@ class Documents(unittest.TestCase):
                     with self.subTest(page=page.name, command=command):
                         done = subprocess.run(["bash", "-c", command], cwd=TOP_FOLDER, capture_output=True, text=True)
                         self.assertIn(shown, (done.stdout, done.stdout + done.stderr))
+                        self.assertEqual(done.returncode, 1 if shown.startswith("refused") else 0)
 
     def test_every_paragraph_has_its_references(self):
         numbers = re.findall(r"(?m)^\*\*(\d+\.\d+)", RULES.read_text())
