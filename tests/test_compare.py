@@ -1,6 +1,6 @@
 #!/usr/bin/env python3
-"""Tests that the comparisons can fail: a library of which one call answers wrong by one, or writes where it must not, is found out by
-tests/compare and by tests/damage."""
+"""Tests that the comparisons can fail: a library of which one call gives one field of its answer wrong by one, or writes behind a buffer,
+is found out by tests/compare and by tests/damage."""
 import random
 import sys
 import unittest
@@ -10,12 +10,12 @@ from pathlib import Path
 
 sys.dont_write_bytecode = True
 
-from library import Library, Touched, filled, written_entries, c_uint32
+from library import HoldRecord, Library, Touched
 from damage_ways import questions
 
 TESTS = Path(__file__).resolve().parent
-CALLS = ["check_file", "check_train", "train_record", "sizes", "run", "hold", "diagram", "rows", "study", "open", "add", "headway",
-         "period", "path"]
+FIELDS = {"check_file": 1, "check_train": 1, "train_record": 3, "sizes": 5, "run": 3, "hold": 4, "diagram": 3, "rows": 5, "study": 3,
+          "open": 2, "add": 3, "headway": 2, "period": 3, "path": 3}            # of each call's answer
 FILES = 150                             # damaged files that the wrong libraries are asked about
 
 
@@ -29,35 +29,48 @@ def script(name):
 compare, damage = script("compare"), script("damage")
 
 
-def one_more(answer):
-    """The answer with the last number of an accepted call wrong by one."""
-    if isinstance(answer, int):
-        return answer + 1
-    *before, last = answer
-    if before[0]:
-        return answer
-    if isinstance(last, int):
-        last += 1
-    elif isinstance(last, bytes):
-        last = last[:-1] + bytes([last[-1] ^ 1]) if last else last
-    elif isinstance(last, list):
-        last = last[:-1] + [last[-1] + 1] if last else last
-    else:                               # a sheet
-        last.free[0] += 1
-    return (*before, last)
+def one_more(value):
+    """A number, the last of a list or of bytes, or the first beginning or free time of a struct, wrong by one."""
+    if isinstance(value, int):
+        return value + 1
+    if isinstance(value, bytes):
+        return value[:-1] + bytes([value[-1] ^ 1]) if value else value
+    if isinstance(value, list):
+        return value[:-1] + [value[-1] + 1] if value else value
+    times = value.begins if isinstance(value, HoldRecord) else value.free
+    times[0] += 1
+    return value
 
 
 class Wrong:
-    """A library of which one call's answers are wrong."""
+    """A library of which one call gives one field of an accepted answer wrong by one; field 0 is the number."""
 
-    def __init__(self, call):
-        self.right, self.call = Library(), call
+    def __init__(self, call, field):
+        self.right, self.call, self.field = Library(), call, field
+
+    def altered(self, answer):
+        if isinstance(answer, int):
+            return one_more(answer)
+        fields = list(answer)
+        if fields[0] == 0:
+            fields[self.field] = one_more(fields[self.field])
+        return tuple(fields)
 
     def __getattr__(self, name):
         asked = getattr(self.right, name)
-        if name != self.call:
-            return asked
-        return lambda *arguments: one_more(asked(*arguments))
+        return (lambda *arguments: self.altered(asked(*arguments))) if name == self.call else asked
+
+
+def writing_behind():
+    """A library of which the run call also writes the entry behind the buffer for speeds."""
+    library = Library()
+    right = library.run_in_c
+
+    def run(file, size, k, speeds, length, *times):
+        speeds[length] = 0
+        return right(file, size, k, speeds, length, *times)
+    library.run_in_c = run
+    return library
 
 
 class Options:
@@ -90,15 +103,15 @@ class CanFail(unittest.TestCase):
         self.assertEqual(self.differences_of_damage(Library()), 0)
 
     def test_wrong_by_one(self):
-        for call in CALLS:
-            with self.subTest(call):
-                self.assertGreater(self.differences_of_compare(Wrong(call)), 0)
-                self.assertGreater(self.differences_of_damage(Wrong(call)), 0)
+        for call, fields in FIELDS.items():
+            for field in range(fields):
+                with self.subTest(call, field=field):
+                    self.assertGreater(self.differences_of_compare(Wrong(call, field)), 0)
+                    self.assertGreater(self.differences_of_damage(Wrong(call, field)), 0)
 
     def test_written_behind_a_buffer(self):
-        lent = filled(c_uint32, 3)
-        lent[3] = 0
-        self.assertRaises(Touched, written_entries, lent, 3)
+        self.assertGreater(self.differences_of_compare(writing_behind()), 0)
+        self.assertRaises(Touched, self.differences_of_damage, writing_behind())
 
 
 if __name__ == "__main__":

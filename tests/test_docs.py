@@ -38,9 +38,9 @@ def declared():
     for file in CRATES.glob("*/*/**/*.antt"):
         crate, folder = file.relative_to(CRATES).parts[:2]
         for line in file.read_text().splitlines():
-            found = re.match(r"\s*(?:(?:unfoldable|abbrev|pub|record|data) )*([^\s:(){}]+)\s", line)
+            found = re.match(r"(?:pub )?(?:record|data) (\S+)|\s*(?:(?:unfoldable|abbrev|pub) )*(\S+) :(?:\s|$)", line)
             if found:
-                names.add((crate, folder, found[1]))
+                names.add((crate, folder, found[1] or found[2]))
     return names
 
 

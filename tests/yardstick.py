@@ -32,3 +32,8 @@ period_call = partial(calculator.period_call, version=VERSION)
 program = partial(calculator.program, version=VERSION)
 record_call = partial(calculator.record_call, version=VERSION)
 write_line = partial(calculator.write_line, version=VERSION)
+
+
+def sizes_of(line):
+    """P, L, B and T."""
+    return [line.P, line.L, len(line.block_starts), len(line.trains)]

@@ -7,9 +7,16 @@ NEEDED = (3, 11)
 FAILED, INTERRUPTED = 2, 130
 
 
+def tell(text):
+    try:
+        os.write(2, text.encode())
+    except OSError:
+        pass                            # nobody is left to be told
+
+
 def start(name, arguments):
     if sys.version_info < NEEDED:
-        os.write(2, ("%s: Python 3.11 or later is needed; python3 is %s\n" % (name, sys.version.split()[0])).encode())
+        tell("%s: Python 3.11 or later is needed; python3 is %s\n" % (name, sys.version.split()[0]))
         return FAILED
     sys.dont_write_bytecode = True
     try:
