@@ -5,7 +5,6 @@
 
 N accepted files are made at random from a seed, which is printed; --seed sets it.
 """
-import argparse
 import os
 import random
 import subprocess
@@ -18,6 +17,7 @@ TOP_FOLDER = Path(__file__).resolve().parent.parent
 sys.dont_write_bytecode = True
 
 from balises import with_some_balises  # noqa: E402
+from knobs import take_options  # noqa: E402
 from yardstick import VERSION, headway_call, hold_call, parse, sample_line, write_line  # noqa: E402
 
 import building  # noqa: E402
@@ -31,7 +31,7 @@ from vectors import random_line  # noqa: E402
 HEADWAY = TOP_FOLDER / "headway"
 EXAMPLES = TOP_FOLDER / "examples"
 FILES = 400
-SEED = random.SystemRandom().randrange(2 ** 32)
+SEED = 1
 SECONDS = 60                            # that a run may take
 SECOND = 1_000_000                      # microseconds
 
@@ -179,10 +179,5 @@ class NoHeadway(unittest.TestCase):
 
 
 if __name__ == "__main__":
-    parser = argparse.ArgumentParser(add_help=False)
-    parser.add_argument("--files", type=int, default=FILES)
-    parser.add_argument("--seed", type=int, default=SEED)
-    options, others = parser.parse_known_args()
-    FILES, SEED = options.files, options.seed
-    print(f"seed: --seed {SEED}", flush=True)
-    unittest.main(argv=[sys.argv[0], *others])
+    FILES, SEED = take_options(FILES)
+    unittest.main()

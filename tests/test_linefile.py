@@ -1,7 +1,6 @@
 #!/usr/bin/env python3
 """Tests of tools/linefile: python3 tests/test_linefile.py"""
 
-import fcntl
 import os
 import pty
 import random
@@ -12,8 +11,6 @@ import struct
 import subprocess
 import sys
 import tempfile
-import termios
-import time
 import unittest
 
 ROOT = os.path.dirname(os.path.dirname(os.path.abspath(__file__)))
@@ -34,6 +31,7 @@ sys.path.insert(0, os.path.dirname(TOOL))
 
 import linefile  # noqa: E402
 import linetext  # noqa: E402
+from processes import SECONDS, taken, with_interrupts  # noqa: E402
 
 
 def packed_numbers(numbers):
@@ -446,12 +444,11 @@ class Commands(unittest.TestCase):
     def test_interrupt(self):
         ours, theirs = os.pipe()
         with subprocess.Popen([TOOL, "pack"], stdin=ours, stdout=subprocess.PIPE, stderr=subprocess.PIPE,
-                              preexec_fn=lambda: signal.signal(signal.SIGINT, signal.SIG_DFL)) as running:
+                              preexec_fn=with_interrupts) as running:
             os.write(theirs, b"points")
-            while fcntl.ioctl(ours, termios.FIONREAD, bytes(4)) != bytes(4):
-                time.sleep(0.001)
+            taken(running, ours)
             running.send_signal(signal.SIGINT)
-            self.assertEqual((*running.communicate(timeout=60), running.returncode), (b"", b"", 130))
+            self.assertEqual((*running.communicate(timeout=SECONDS), running.returncode), (b"", b"", 130))
         os.close(ours)
         os.close(theirs)
 

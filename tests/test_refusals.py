@@ -6,7 +6,6 @@ of the independent calculator, and the train and the entry that it names are the
 
 N damaged files are made from a fixed seed and N from a fresh one, which is printed; --seed sets it.
 """
-import argparse
 import copy
 import random
 import re
@@ -18,6 +17,7 @@ from dataclasses import replace
 sys.dont_write_bytecode = True
 
 from damage_ways import questions  # noqa: E402
+from knobs import take_options  # noqa: E402
 from yardstick import PROGRAM_BOUND, Line, Train, accepted_line, broken_rules, number_of, parse, write_line  # noqa: E402
 
 from linetext import from_bytes, read_text, write_text  # noqa: E402
@@ -26,7 +26,7 @@ from refusals import RULES, explanation, first_broken  # noqa: E402
 
 FILES = 20_000
 FIXED_SEED = 7
-FRESH_SEED = random.SystemRandom().randrange(2 ** 32)
+FRESH_SEED = 1
 
 # The parallel lists in which a rule's entry stands.
 LINE_LISTS = {4: ("limit_points", "limits"), 5: ("limit_points", "limits"), 6: ("block_starts", "block_ends"),
@@ -241,10 +241,5 @@ class DamagedFiles(Finding):
 
 
 if __name__ == "__main__":
-    parser = argparse.ArgumentParser(add_help=False)
-    parser.add_argument("--files", type=int, default=FILES)
-    parser.add_argument("--seed", type=int, default=FRESH_SEED)
-    options, others = parser.parse_known_args()
-    FILES, FRESH_SEED = options.files, options.seed
-    print(f"fresh seed: --seed {FRESH_SEED}", flush=True)
-    unittest.main(argv=[sys.argv[0], *others])
+    FILES, FRESH_SEED = take_options(FILES)
+    unittest.main()
