@@ -5,87 +5,19 @@ taken. Every lent buffer is filled with a pattern first and has guard entries be
 squared speed or a time is that of the pattern.
 """
 import ctypes
-import subprocess
 import sys
-from ctypes import POINTER, Structure, c_size_t, c_uint8, c_uint32, c_uint64
-from pathlib import Path
+from ctypes import c_uint8, c_uint32, c_uint64
 
-TOP_FOLDER = Path(__file__).resolve().parent.parent
-sys.path.insert(0, str(TOP_FOLDER / "tools"))
+from places import TOP_FOLDER
 
-from building import LIBRARY, out_of_date  # noqa: E402
+from building import LIBRARY, out_of_date
+from linking import is_old, link
+from vellumrill.binding import CALLS, MOST_BLOCKS as PLACES, SHARED_OBJECT, HoldRecord, Sheet, declared  # noqa: F401
 
 ARCHIVE = LIBRARY.path
-SHARED_OBJECT = TOP_FOLDER / "target" / "libvellumrill.so"
 INCLUDE = TOP_FOLDER / "include"
-
-PLACES = 32
 GUARDS = 8                              # entries behind each lent buffer
 PATTERN = 0xA5                          # of each byte
-
-
-class HoldRecord(Structure):
-    _fields_ = [("blocks", c_uint64), ("begins", c_uint64 * PLACES), ("ends", c_uint64 * PLACES)]
-
-
-class Sheet(Structure):
-    _fields_ = [("blocks", c_uint64), ("trains", c_uint64), ("free", c_uint64 * PLACES), ("first", c_uint64 * PLACES)]
-
-
-class RecordAnswer(Structure):
-    _fields_ = [("number", c_uint64), ("start", c_uint64), ("length", c_uint64)]
-
-
-class Sizes(Structure):
-    _fields_ = [("number", c_uint64), ("points", c_uint64), ("step", c_uint64), ("blocks", c_uint64), ("trains", c_uint64)]
-
-
-class RowsAnswer(Structure):
-    _fields_ = [("number", c_uint64), ("trains", c_uint64)]
-
-
-class Written(Structure):
-    _fields_ = [("number", c_uint64), ("bytes", c_uint64)]
-
-
-class HoldAnswer(Structure):
-    _fields_ = [("number", c_uint64), ("hold", HoldRecord)]
-
-
-class Added(Structure):
-    _fields_ = [("number", c_uint64), ("start", c_uint64), ("block", c_uint64)]
-
-
-class HeadwayAnswer(Structure):
-    _fields_ = [("number", c_uint64), ("headway", c_uint64)]
-
-
-class PeriodAnswer(Structure):
-    _fields_ = [("number", c_uint64), ("period", c_uint64), ("percent", c_uint64)]
-
-
-class PathAnswer(Structure):
-    _fields_ = [("number", c_uint64), ("start", c_uint64), ("before", c_uint64)]
-
-
-FILE = [POINTER(c_uint8), c_size_t]
-BUFFERS = [POINTER(c_uint32), c_size_t, POINTER(c_uint64), c_size_t]
-CALLS = {
-    "vr_check_file": (c_uint64, FILE),
-    "vr_check_train": (c_uint64, FILE + [c_uint64]),
-    "vr_train_record": (RecordAnswer, FILE + [c_uint64]),
-    "vr_sizes": (Sizes, FILE),
-    "vr_run": (c_uint64, FILE + [c_uint64] + BUFFERS),
-    "vr_hold": (HoldAnswer, FILE + [c_uint64] + BUFFERS),
-    "vr_open": (c_uint64, [c_uint64, POINTER(Sheet)]),
-    "vr_add": (Added, [POINTER(Sheet), POINTER(HoldRecord)]),
-    "vr_headway": (HeadwayAnswer, [POINTER(HoldRecord), POINTER(HoldRecord)]),
-    "vr_period": (PeriodAnswer, [POINTER(Sheet)]),
-    "vr_path": (PathAnswer, [POINTER(HoldRecord)] + 3 * [POINTER(c_uint64), c_size_t] + 2 * [c_uint64]),
-    "vr_rows": (RowsAnswer, FILE + 3 * [POINTER(c_uint64), c_size_t]),
-    "vr_study": (Written, FILE + [POINTER(c_uint8), c_size_t]),
-    "vr_diagram": (Written, FILE + [c_uint64, POINTER(c_uint8), c_size_t]),
-}
 
 
 class Touched(Exception):
@@ -98,13 +30,11 @@ def need_archive():
         sys.exit("%s is not there or older than its sources: run `rt staticlib vellumrill`" % ARCHIVE.relative_to(TOP_FOLDER))
 
 
-def link_shared_object():
-    """Links the archive into a shared object, if that is older than the archive."""
-    need_archive()
-    if SHARED_OBJECT.exists() and SHARED_OBJECT.stat().st_mtime >= ARCHIVE.stat().st_mtime:
-        return
-    subprocess.run(["gcc", "-shared", "-o", str(SHARED_OBJECT), "-Wl,--whole-archive", str(ARCHIVE),
-                    "-Wl,--no-whole-archive"], check=True)
+def need_shared_object():
+    """The same of the shared object, which is linked from the archive where that alone is up to date."""
+    if is_old():
+        need_archive()
+        link()
 
 
 def untouched(what, kept):
@@ -117,13 +47,10 @@ class Library:
 
     def __init__(self, path=None):
         if path is None:
-            link_shared_object()
-            path = SHARED_OBJECT
-        loaded = ctypes.CDLL(str(Path(path).resolve()))
-        for name, (result, arguments) in CALLS.items():
-            call = getattr(loaded, name)
-            call.restype, call.argtypes = result, arguments
-            setattr(self, name[len("vr_"):] + "_in_c", call)
+            need_shared_object()
+        loaded = declared(path or SHARED_OBJECT)
+        for name in CALLS:
+            setattr(self, name[len("vr_"):] + "_in_c", getattr(loaded, name))
 
     # ---- files
 

@@ -10,12 +10,12 @@ import tempfile
 import unittest
 from pathlib import Path
 
-TOP_FOLDER = Path(__file__).resolve().parent.parent
 sys.dont_write_bytecode = True
-sys.path.insert(0, str(TOP_FOLDER / "tools"))
 
-import building  # noqa: E402
-from processes import SECONDS, wait_until, with_interrupts  # noqa: E402
+from places import TOP_FOLDER
+from processes import SECONDS, wait_until, with_interrupts
+
+import building
 
 STANDIN_RT = """\
 import subprocess, sys, time
@@ -57,8 +57,8 @@ class Tree:
     def __init__(self, top):
         self.top = top
         self.environment = {"PATH": str(top / "bin")}
-        for name in ("tools", "include"):
-            shutil.copytree(TOP_FOLDER / name, top / name, ignore=shutil.ignore_patterns("__pycache__"))
+        for name in ("tools", "include", "python"):
+            shutil.copytree(TOP_FOLDER / name, top / name, ignore=shutil.ignore_patterns("__pycache__", "*.so"))
         for name in ("sheet", "headway"):
             shutil.copy(TOP_FOLDER / name, top / name)
         texts = {"crates.txt": self.CRATES, "rt.proved": self.PROVED, "rt.failed": self.FAILED, "rt.mode": "",
@@ -292,7 +292,7 @@ class Closure(InTree):
     """The functions that other tests ask."""
 
     def ask(self, question):
-        words = f"import sys; sys.dont_write_bytecode = True; import building; print({question})"
+        words = f"import sys; sys.dont_write_bytecode = True; sys.path.append('../python'); import building; print({question})"
         return subprocess.run([sys.executable, "-c", words], cwd=self.tree.top / "tools", check=True, capture_output=True,
                               text=True).stdout.strip()
 

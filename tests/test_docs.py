@@ -8,7 +8,8 @@ import unittest
 
 sys.dont_write_bytecode = True
 
-from library import TOP_FOLDER, need_archive
+from library import need_archive
+from places import TOP_FOLDER
 from yardstick import VERSION
 
 CRATES = TOP_FOLDER / "crates"

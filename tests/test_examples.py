@@ -10,11 +10,11 @@ import unittest
 
 sys.dont_write_bytecode = True
 
-from library import TOP_FOLDER, need_archive
+from library import need_archive
+from places import EXAMPLES, TOP_FOLDER
 from yardstick import HEADER_LINE, POINT_SIZE, Refused, accepted_line, add_call, diagram_call, hold_call, open_call, path_call
 from yardstick import period_call, program
 
-EXAMPLES = TOP_FOLDER / "examples"
 OUT = TOP_FOLDER / "target"
 TEXTS = sorted(EXAMPLES.glob("*.txt"))
 

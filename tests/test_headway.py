@@ -13,23 +13,23 @@ import tempfile
 import unittest
 from pathlib import Path
 
-TOP_FOLDER = Path(__file__).resolve().parent.parent
 sys.dont_write_bytecode = True
 
-from balises import with_some_balises  # noqa: E402
-from knobs import take_options  # noqa: E402
-from yardstick import VERSION, headway_call, hold_call, parse, sample_line, write_line  # noqa: E402
+from balises import with_some_balises
+from knobs import take_options
+from places import EXAMPLES, TOP_FOLDER
+from yardstick import VERSION, headway_call, hold_call, parse, sample_line, write_line
 
-import building  # noqa: E402
-from asking import ask, rows_in  # noqa: E402
-from linetext import decode, read_text, to_bytes  # noqa: E402
-from messages import speaker  # noqa: E402
-from pairs import last_headway, seconds_up  # noqa: E402
-from records import split_records, with_records  # noqa: E402
-from vectors import random_line  # noqa: E402
+import building
+from asking import ask, rows_in
+from pairs import last_headway
+from records import split_records, with_records
+from vectors import random_line
+from vellumrill.clock import seconds_up
+from vellumrill.linetext import decode, read_text, to_bytes
+from vellumrill.messages import speaker
 
 HEADWAY = TOP_FOLDER / "headway"
-EXAMPLES = TOP_FOLDER / "examples"
 FILES = 400
 SEED = 1
 SECONDS = 60                            # that a run may take

@@ -27,11 +27,12 @@ TRAIN = "train goods\nlength 600\n"
 
 
 sys.dont_write_bytecode = True
-sys.path.insert(0, os.path.dirname(TOOL))
 
-import linefile  # noqa: E402
-import linetext  # noqa: E402
-from processes import SECONDS, taken, with_interrupts  # noqa: E402
+import places  # noqa: F401
+from processes import SECONDS, taken, with_interrupts
+
+import linefile_command
+from vellumrill import linetext
 
 
 def packed_numbers(numbers):
@@ -180,7 +181,7 @@ class Text(unittest.TestCase):
             self.assertEqual(pack_text(linetext.decode(data)), pack_text(plain))
 
     def test_example_in_the_help_packs(self):
-        text = linefile.HELP
+        text = linefile_command.HELP
         example = text[text.index("  points 7"):text.index("  linefile pack")]
         numbers = unpacked_numbers(pack_text(example))
         self.assertEqual(numbers, SAMPLE_NUMBERS[:13] + [1] + SAMPLE_TRAIN)

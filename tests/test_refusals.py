@@ -1,5 +1,5 @@
 #!/usr/bin/env python3
-"""Tests tools/refusals.py, which explains refusals: over damaged files and files made by hand, the rule that it finds is the number
+"""Tests how refusals are explained: over damaged files and files made by hand, the rule that it finds is the number
 of the independent calculator, and the train and the entry that it names are the first that break the rule.
 
     python3 tests/test_refusals.py [--files N] [--seed N]
@@ -20,9 +20,12 @@ from damage_ways import questions  # noqa: E402
 from knobs import take_options  # noqa: E402
 from yardstick import PROGRAM_BOUND, Line, Train, accepted_line, broken_rules, number_of, parse, write_line  # noqa: E402
 
-from linetext import from_bytes, read_text, write_text  # noqa: E402
+import asking  # noqa: E402
 from records import split_records, with_records  # noqa: E402
-from refusals import RULES, explanation, first_broken  # noqa: E402
+from vellumrill.inputs import Given  # noqa: E402
+from vellumrill.linetext import from_bytes, read_text, write_text  # noqa: E402
+from vellumrill.refusals import explanation, first_broken  # noqa: E402
+from vellumrill.rules import RULES  # noqa: E402
 
 FILES = 20_000
 FIXED_SEED = 7
@@ -124,7 +127,7 @@ class Finding(unittest.TestCase):
         self.assertEqual(found.number if found else 0, number)
         if found:
             self.assertIn(str(found.value), re.findall("[0-9]+", found.words))
-            self.assertEqual(explanation(number, data).startswith(found.words), len(data) <= PROGRAM_BOUND or number != 2)
+            self.assertTrue(explanation(number, data).startswith(found.words))
         if found and found.train:
             self.check_train(data, found)
         if found and found.entry:
@@ -179,14 +182,15 @@ class FilesMadeByHand(Finding):
 
 class Explanations(unittest.TestCase):
     def test_every_rule_has_words(self):
-        self.assertEqual(sorted(RULES), [1, 2, 3, 4, 5, 6, 7, 8, 9, 15])
+        self.assertEqual(list(RULES), [1, 2, 3, 4, 5, 6, 15, 7, 8, 9, 10, 11, 12, 13, 14, 16, 17])
         self.assertTrue(all(RULES.values()))
 
     def test_the_program_bound_is_no_rule(self):
         words = "the line file has more than 16,384 bytes, so no rule was checked"
-        self.assertEqual(explanation(2, bytes(PROGRAM_BOUND + 1)), words)
-        self.assertNotEqual(explanation(2, changed() + b"\0"), words)
-        self.assertNotEqual(explanation(3, bytes(PROGRAM_BOUND)), words)
+        self.assertEqual(asking.explanation(2, Given(bytes(PROGRAM_BOUND + 1))), words)
+        self.assertNotEqual(asking.explanation(2, Given(changed() + b"\0")), words)
+        self.assertNotEqual(asking.explanation(3, Given(bytes(PROGRAM_BOUND))), words)
+        self.assertNotEqual(explanation(2, bytes(PROGRAM_BOUND + 1)), words)
 
     def test_line_of_the_text(self):
         """The line that is named has the word of the entry, and is the one of its number among them in its train."""
@@ -233,7 +237,7 @@ class DamagedFiles(Finding):
     def test_fixed_seed(self):
         tally = self.tally_of(FIXED_SEED)
         numbers = {key[0] for key in tally if key}
-        self.assertEqual(numbers, set(RULES))
+        self.assertEqual(numbers, {1, 2, 3, 4, 5, 6, 7, 8, 9, 15})
         self.assertGreater(tally[0], FILES // 20)
 
     def test_fresh_seed(self):

@@ -14,22 +14,21 @@ import tempfile
 import unittest
 from pathlib import Path
 
-TOP_FOLDER = Path(__file__).resolve().parent.parent
 sys.dont_write_bytecode = True
 
-from damage_ways import questions  # noqa: E402
-from processes import SECONDS, taken, with_interrupts  # noqa: E402
-from yardstick import PROGRAM_BOUND, VERSION, accepted_line, number_of, program, sample_line, write_line  # noqa: E402
+from damage_ways import questions
+from places import EXAMPLES, TOP_FOLDER
+from processes import SECONDS, taken, with_interrupts
+from yardstick import PROGRAM_BOUND, VERSION, accepted_line, number_of, program, sample_line, write_line
 
-import building  # noqa: E402
-import refusals  # noqa: E402
-from asking import ask, refusal_in  # noqa: E402
-from linetext import decode, read_text, to_bytes  # noqa: E402
-from messages import speaker  # noqa: E402
+import building
+from asking import ask, explanation, refusal_in
+from vellumrill.inputs import Given
+from vellumrill.linetext import decode, read_text, to_bytes
+from vellumrill.messages import speaker
 
 PROGRAM = building.PROGRAM.path
 SHEET = TOP_FOLDER / "sheet"
-EXAMPLES = TOP_FOLDER / "examples"
 SAMPLE = write_line(sample_line())
 SAMPLE_SHEET = b"train start run block\n1 0 69282976 0\n2 57282976 69282976 2\n"
 
@@ -127,7 +126,7 @@ class SheetProgram(unittest.TestCase):
                 number = refusal_in(ask(data[:PROGRAM_BOUND + 1]))
                 self.assertEqual(number, 2 if len(data) > PROGRAM_BOUND else number_of(accepted_line, data))
                 if number:
-                    self.assertNotIn("not found", refusals.explanation(number, data))
+                    self.assertNotIn("not found", explanation(number, Given(data)))
 
 
 class Accepted(unittest.TestCase):

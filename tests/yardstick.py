@@ -1,19 +1,11 @@
-"""The independent calculator as the tests ask it: its calls at one version. The tests take all of it from here.
-
-This puts the folders calculator and tools on the path, so their other modules can be imported after this one.
-"""
-import sys
+"""The independent calculator as the tests ask it: its calls at one version. The tests take all of it from here."""
 from functools import partial
-from pathlib import Path
 
-FOLDER = Path(__file__).resolve().parent / "calculator"
-TOOLS = Path(__file__).resolve().parent.parent / "tools"
-sys.path[:0] = [str(FOLDER), str(TOOLS)]
-
-import calculator  # noqa: E402
-from calculator import HEADER_LINE, PROGRAM_BOUND, Hold, Line, Refused, Sheet, Train, number_of  # noqa: E402, F401
-from calculator import open_call, padded, path_by_trying, path_call, sample_line  # noqa: E402, F401
-from header import version  # noqa: E402
+import places  # noqa: F401
+import calculator
+from calculator import HEADER_LINE, PROGRAM_BOUND, Hold, Line, Refused, Sheet, Train, number_of  # noqa: F401
+from calculator import open_call, padded, path_by_trying, path_call, sample_line  # noqa: F401
+from header import version
 
 VERSION = version()         # how many requests of document 02 are in force, from the first on, as the header says
 POINT_SIZE = 25             # bytes of a point in the diagram

@@ -13,7 +13,7 @@ import subprocess
 from pathlib import Path
 from typing import NamedTuple
 
-from messages import Failure, end_of, reason
+from vellumrill.messages import Failure, end_of, reason
 
 TOP = Path(__file__).resolve().parent.parent
 TARGET = TOP / "target"

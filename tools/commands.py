@@ -1,19 +1,16 @@
 """What the commands have in common that print something of a line file: arguments, refusals and exit status."""
 
 import os
-import signal
-import sys
 from typing import Callable, NamedTuple
 
-import refusals
-from asking import ask, refusal_in
+from asking import ask, explanation, input_of, refusal_in
 from building import PROGRAM, bring_up_to_date
-from header import version_line
-from inputs import STANDARD_INPUT, given
-from messages import Failure, keep_place_of_error, reason, speaker
-from output import need_output, write_out
-
-REFUSED, FAILED = 1, 2
+from vellumrill import running
+from vellumrill.inputs import STANDARD_INPUT
+from vellumrill.messages import Failure
+from vellumrill.output import write_out
+from vellumrill.running import REFUSED
+from vellumrill.version import version_line
 
 ARGUMENTS = """\
   FILE       a line file, or a line text whose name ends in .txt
@@ -74,13 +71,13 @@ def input_name(command, names):
 
 def answer_file(command, name, say):
     """Prints the answer about one file. What is wrong with the input is said before anything is built."""
-    asked = given(name)
+    asked = input_of(name)
     bring_up_to_date(PROGRAM, say)
     sheet = ask(asked.data)
     number = refusal_in(sheet)
     if number:
         write_out(sheet)
-        say(f"explanation of refused {number}: {refusals.explanation(number, *asked)}")
+        say(f"explanation of refused {number}: {explanation(number, asked)}")
         return REFUSED
     printed, status = command.answer(asked.data, sheet)
     write_out(printed)
@@ -88,7 +85,6 @@ def answer_file(command, name, say):
 
 
 def obey(command, arguments, say):
-    need_output()
     options, names = taken_apart(arguments)
     if "--help" in options or "-h" in options:
         write_out(command.help().encode())
@@ -101,22 +97,6 @@ def obey(command, arguments, say):
     return 0
 
 
-def end_by(number, frame):
-    """Ends the command, and what it has started, when it gets this signal."""
-    sys.exit(128 + number)
-
-
 def run(command, arguments):
     """Does what the arguments ask, and gives the exit status."""
-    for number in (signal.SIGTERM, signal.SIGHUP):
-        if signal.getsignal(number) != signal.SIG_IGN:      # as behind nohup
-            signal.signal(number, end_by)
-    keep_place_of_error()
-    say = speaker(command.name)
-    try:
-        return obey(command, arguments, say)
-    except Failure as failure:
-        say(failure)
-    except OSError as error:
-        say(reason(error))
-    return FAILED
+    return running.run(command.name, lambda say: obey(command, arguments, say))

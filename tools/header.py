@@ -1,9 +1,9 @@
-"""The version, which stands in the header of the calls for C alone."""
+"""The header of the calls for C, which has the version."""
 
 import re
 from pathlib import Path
 
-from messages import Failure
+from vellumrill.messages import Failure
 
 HEADER = Path(__file__).resolve().parent.parent / "include" / "vellumrill.h"
 
@@ -14,8 +14,3 @@ def version():
     if not found:
         raise Failure(f"{HEADER} does not say VR_VERSION")
     return int(found[1])
-
-
-def version_line():
-    number = version()
-    return f"Vellumrill {number}: document 01 with requests 01 to {number:02} of document 02\n"

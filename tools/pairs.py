@@ -1,10 +1,8 @@
 """The headway of the last two trains of a line file."""
 
 from asking import ask, rows_in
-from messages import Failure
 from records import split_records, with_records
-
-MICROSECONDS = 1_000_000                # in a second
+from vellumrill.messages import Failure
 
 
 def last_headway(data):
@@ -17,8 +15,3 @@ def last_headway(data):
         raise Failure("the program gave no sheet of the last two trains")
     _, start, _, _ = rows[1]
     return start
-
-
-def seconds_up(microseconds):
-    """In whole seconds; what is left counts as one more."""
-    return -(-microseconds // MICROSECONDS)

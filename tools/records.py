@@ -2,7 +2,7 @@
 
 import struct
 
-import linetext
+from vellumrill import linetext
 
 
 def split_records(data):

@@ -5,6 +5,7 @@ import sys
 
 NEEDED = (3, 11)
 FAILED, INTERRUPTED = 2, 130
+TOP = os.path.dirname(os.path.dirname(os.path.abspath(__file__)))
 
 
 def tell(text):
@@ -19,8 +20,9 @@ def start(name, arguments):
         tell("%s: Python 3.11 or later is needed; python3 is %s\n" % (name, sys.version.split()[0]))
         return FAILED
     sys.dont_write_bytecode = True
+    sys.path.append(os.path.join(TOP, "python"))
     try:
-        return __import__(name).main(arguments)
+        return __import__(name + "_command").main(arguments)
     except KeyboardInterrupt:
         return INTERRUPTED
 

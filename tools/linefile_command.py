@@ -1,16 +1,14 @@
 """Turns a readable description of a line and its trains into a line file, and back."""
 
-import argparse
 import os
 
-from header import version_line
-from inputs import STANDARD_INPUT, TEXT_BOUND, read_bytes, spoken
-from linetext import Fault, decode, from_bytes, read_text, to_bytes, write_text
-from messages import Failure, keep_place_of_error, reason, speaker
-from output import need_output, write_file, write_out
+from vellumrill.inputs import MOST_BYTES, STANDARD_INPUT, read_bytes, spoken
+from vellumrill.linetext import Fault, decode, from_bytes, read_text, to_bytes, write_text
+from vellumrill.messages import Failure
+from vellumrill.output import write_file, write_out
+from vellumrill.running import parser_of, run
 
 STANDARD_OUTPUT = "-"
-FAILED = 2
 
 HELP = """\
 The text has one thing to a line. What follows a # is a comment; blank lines
@@ -62,9 +60,9 @@ written, and a FILE keeps what it had.
 
 
 def read_input(name):
-    data = read_bytes(name, TEXT_BOUND + 1)
-    if len(data) > TEXT_BOUND:
-        raise Failure(f"{spoken(name)} has more than {TEXT_BOUND} bytes, which no text of a line has, nor its line file")
+    data = read_bytes(name, MOST_BYTES + 1)
+    if len(data) > MOST_BYTES:
+        raise Failure(f"{spoken(name)} has more than {MOST_BYTES} bytes, which no text of a line has, nor its line file")
     return data
 
 
@@ -106,20 +104,8 @@ def show(asked):
     write_out(about(asked.file, lambda data: write_text(from_bytes(data)), read_input(asked.file)).encode())
 
 
-class Parser(argparse.ArgumentParser):
-    def print_help(self, file=None):
-        write_out(self.format_help().encode())
-
-
-class Version(argparse.Action):
-    def __call__(self, parser, namespace, values, option_string=None):
-        write_out(version_line().encode())
-        parser.exit()
-
-
 def command_line():
-    parser = Parser(prog="linefile", description=__doc__, epilog=HELP, formatter_class=argparse.RawDescriptionHelpFormatter)
-    parser.add_argument("--version", action=Version, nargs=0, help="print the version and the rules that are in force")
+    parser = parser_of("linefile", __doc__, HELP)
     commands = parser.add_subparsers(dest="command", metavar="pack|show", required=True)
     one = commands.add_parser("pack", help="text to line file: pack TEXT [FILE]",
                               description="Writes the line file that a text describes.")
@@ -137,19 +123,12 @@ def command_line():
 
 
 def main(arguments):
-    keep_place_of_error()
-    say = speaker("linefile")
-    try:
-        need_output()
+    def obey(say):
         asked = command_line().parse_args(arguments)
-        asked.run(asked)
-    except Fault as fault:
-        say(fault)
-        return fault.status
-    except Failure as failure:
-        say(failure)
-        return FAILED
-    except OSError as error:
-        say(reason(error))
-        return FAILED
-    return 0
+        try:
+            asked.run(asked)
+        except Fault as fault:
+            say(fault)
+            return fault.status
+        return 0
+    return run("linefile", obey)

@@ -1,28 +1,14 @@
 """Finds the rule that a line file breaks, and says in words which train and which entry breaks it.
 
-The verdict is the program's alone; this explains it. Rules are tried in checking order: 1 to 6, 15, 7 to 9. So a later rule meets
-only lines that keep all earlier ones: with a block, and with a step that is not 0.
+The verdict is that of the proved program or library alone; this explains it. Rules are tried in checking order: 1 to 6, 15, 7 to 9.
+So a later rule meets only lines that keep all earlier ones: with a block, and with a step that is not 0.
 """
 
 from itertools import count
 from typing import NamedTuple
 
-import linetext
-from inputs import PROGRAM_BOUND
-
-RULES = {
-    1: "the file ends before something that its sizes announce",
-    2: "bytes follow the last announced train",
-    3: "a number is beyond its limits",
-    4: "the limit points do not begin at 0, do not rise, or one is beyond the last cell",
-    5: "a limit is not 1 to 300 km/h",
-    6: "the first block does not start at 0, a block does not end after its start, starts before the one before it ends,"
-       " or ends beyond the last point",
-    7: "the band tops of a train do not rise within 1 to 300 km/h, or a rate is not 1 to 200 cm/s2",
-    8: "a stop is less than two points after the one before it or beyond the last point, or a dwell is longer than 3600 s",
-    9: "a train has no room behind the last block",
-    15: "the balises do not rise in place, the metres past a point reach the step, or a balise lies beyond the last point",
-}
+from . import linetext
+from .rules import RULES
 
 
 class Broken(NamedTuple):
@@ -182,7 +168,7 @@ def left_over(line, end, size):
 
 
 def first_broken(data):
-    """The part of a rule that gives a line file its number of refusal, or None. The program's own bound is no rule."""
+    """The part of a rule that gives a line file its number of refusal, or None."""
     source = linetext.Bytes(data)
     try:
         line = linetext.take_line(source)
@@ -210,9 +196,7 @@ def is_any_text(data):
 
 
 def explanation(number, data, line=None):
-    """Why the program refused these bytes by this number, in words; `line` is what their text says, where they have one."""
-    if number == 2 and len(data) > PROGRAM_BOUND:
-        return f"the line file has more than {PROGRAM_BOUND:,} bytes, so no rule was checked"
+    """Why these bytes are refused by this number, in words; `line` is what their text says, where they have one."""
     found = first_broken(data)
     if not found or found.number != number:
         return f"{RULES.get(number, 'there is no such rule of a file')}; the place was not found"

@@ -3,7 +3,7 @@
 import os
 import tempfile
 
-from messages import Failure
+from .messages import Failure
 
 
 def need_output():

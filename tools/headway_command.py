@@ -1,7 +1,9 @@
 """Prints the headway of the last two trains of a line."""
 
 from commands import Command, run
-from pairs import last_headway, seconds_up
+from pairs import last_headway
+from vellumrill.clock import seconds_up
+from vellumrill.commands.headway import NO_HEADWAY, ONE_TRAIN
 
 ABOUT = """\
 Prints the headway of the last two trains of a line, in whole seconds: how long
@@ -9,14 +11,13 @@ after the first of the two the second may start, if only these two run. It is
 the second's start on a sheet of the two, rounded up: a headway rounded down
 would be one that the line does not have.
 """
-ONE_TRAIN = 3
 
 
 def answer(data, sheet):
     """What is printed of an accepted file, and the exit status."""
     headway = last_headway(data)
     if headway is None:
-        return b"one train, so no headway\n", ONE_TRAIN
+        return f"{NO_HEADWAY}\n".encode(), ONE_TRAIN
     return b"%d\n" % seconds_up(headway), 0
 
 

@@ -1,15 +1,14 @@
-"""Reads the line file that a command is asked about, or packs it from a line text."""
+"""Reads the line file that is asked about, or packs it from a line text."""
 
 import codecs
 import os
 import stat
 from typing import NamedTuple
 
-import linetext
-from messages import Failure
+from . import linetext
+from .messages import Failure
 
-PROGRAM_BOUND = 16_384                  # bytes; a longer line file is refused by the program, no rule checked
-TEXT_BOUND = 1 << 24                    # bytes; longer than any line text, so that an endless one ends
+MOST_BYTES = 1 << 24                    # more than any line text or accepted line file has, so that an endless input ends
 STANDARD_INPUT = "-"
 
 
@@ -44,33 +43,33 @@ def read_bytes(name, size):
         raise Failure(f"{spoken(name)} cannot be read: {error.strerror}") from None
 
 
-def is_line_text(data):
-    """Whether these bytes, of which the last may be missing if they pass the bound, are a line text."""
+def is_line_text(data, whole):
+    """Whether these bytes, of which the last are missing if they are not the whole input, are a line text."""
     if b"\0" in data:
         return False
     try:
-        text = codecs.getincrementaldecoder("utf-8-sig")().decode(data, final=len(data) <= PROGRAM_BOUND)
+        text = codecs.getincrementaldecoder("utf-8-sig")().decode(data, final=whole)
     except UnicodeDecodeError:
         return False
     first = next(linetext.numbered_words(text), None)
     return first is not None and first[1][0] in linetext.VALUES
 
 
-def read_line_file(name):
-    """One byte more than the program's bound is read, so that a longer file is known."""
-    data = read_bytes(name, PROGRAM_BOUND + 1)
-    if is_line_text(data):
+def read_line_file(name, most):
+    """The bytes of a line file, cut behind the one that passes so many."""
+    data = read_bytes(name, most + 1)
+    if is_line_text(data, whole=len(data) <= most):
         raise Failure(f"{spoken(name)} is a line text, not a line file: give it as a file whose name ends in .txt,"
-                      " or pack it first, as in `tools/linefile pack < TEXT | ./sheet`")
+                      " or pack it first by `tools/linefile pack`")
     return data
 
 
 def read_line_text(name):
-    data = read_bytes(name, TEXT_BOUND + 1)
+    data = read_bytes(name, MOST_BYTES + 1)
     if b"\0" in data:
         raise Failure(f"{name} has a byte 0, so it is no line text in UTF-8; a line file needs a name that does not end in .txt")
-    if len(data) > TEXT_BOUND:
-        raise Failure(f"{name} has more than {TEXT_BOUND} bytes, which no line text has")
+    if len(data) > MOST_BYTES:
+        raise Failure(f"{name} has more than {MOST_BYTES} bytes, which no line text has")
     try:
         return linetext.read_text(linetext.decode(data))
     except linetext.Fault as fault:
@@ -78,13 +77,22 @@ def read_line_text(name):
 
 
 class Given(NamedTuple):
-    """The line file that a command is asked about."""
-    data: bytes                         # cut behind the byte that passes the program's bound
+    """The line file that is asked about."""
+    data: bytes
     line: linetext.Line = None          # what its text says, where it has one
 
 
-def given(name):
+def given(name, most):
+    """The line file of this name, or the one that a line text describes, cut behind the byte that passes so many."""
     if not name.endswith(".txt"):
-        return Given(read_line_file(name))
+        return Given(read_line_file(name, most))
     line = read_line_text(name)
-    return Given(linetext.to_bytes(line)[:PROGRAM_BOUND + 1], line)
+    return Given(linetext.to_bytes(line)[:most + 1], line)
+
+
+def whole(name):
+    """The same with all its bytes."""
+    found = given(name, MOST_BYTES)
+    if len(found.data) > MOST_BYTES:
+        raise Failure(f"{spoken(name)} has more than {MOST_BYTES} bytes, which no accepted line file has")
+    return found

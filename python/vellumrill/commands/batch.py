@@ -1,0 +1,156 @@
+"""Computes the sheets of all files in a folder, and writes a CSV file with a row
+for each train, or for the file where it is refused or cannot be read."""
+
+import os
+import signal
+import time
+from collections import Counter
+from concurrent.futures import ProcessPoolExecutor
+from multiprocessing import get_context
+from pathlib import Path
+from typing import NamedTuple
+
+from .. import binding, calls, inputs, linetext, refusals
+from ..messages import Failure
+from ..output import write_file
+from ..rules import RULES, Refusal
+from ..running import FAILED, REFUSED, is_terminal
+from ..tables import as_csv
+from .asked import print_lines
+
+HELP = "all files of a folder, on all cores, into one CSV file"
+NOTES = """\
+The files are those in DIR itself, in the order of their names, without hidden
+ones; a line text has a name that ends in .txt, every other file is taken as a
+line file. Times are in microseconds. A file that is refused or cannot be read
+has a row that says why, and stops nothing.
+
+exit status: 0 all files are accepted; 1 some are refused; 2 some cannot be
+read, or nothing was written.
+"""
+HEADER = ("file", "verdict", "train", "class", "start_us", "run_us", "block", "number", "words")
+ACCEPTED, REFUSED_FILE, FAILED_FILE = "accepted", "refused", "failed"
+
+
+class Result(NamedTuple):
+    """What came of one file."""
+    verdict: str
+    rows: list
+    number: int = 0                     # of a refusal
+
+
+def add_arguments(parser):
+    parser.add_argument("folder", metavar="DIR", help="the folder with the files")
+    parser.add_argument("--csv", metavar="OUT", required=True, help="the CSV file, a name that ends in .csv; an old one is replaced")
+
+
+# ------------------------------------------------------------ one file
+
+def train_rows(name, data):
+    columns = calls.rows(data)
+    return [(name, ACCEPTED, number, linetext.class_word(train.train_class), start, run, block, "", "")
+            for number, (train, start, run, block) in enumerate(zip(linetext.from_bytes(data).trains, *columns), 1)]
+
+
+def row_without_train(name, verdict, number, words):
+    return [(name, verdict, "", "", "", "", "", number, words)]
+
+
+def result_of(path):
+    name = os.path.basename(path)
+    try:
+        given = inputs.whole(path)
+        return Result(ACCEPTED, train_rows(name, given.data))
+    except Refusal as refusal:
+        words = refusals.explanation(refusal.number, *given)
+        return Result(REFUSED_FILE, row_without_train(name, REFUSED_FILE, refusal.number, words), refusal.number)
+    except Failure as failure:
+        return Result(FAILED_FILE, row_without_train(name, FAILED_FILE, "", str(failure)))
+
+
+# ------------------------------------------------------------ all files
+
+def is_taken(entry):
+    """Whether an entry of the folder is a file that is not hidden, or should be one: a link that leads nowhere."""
+    return not entry.name.startswith(".") and (entry.is_file() or entry.is_symlink() and not os.path.exists(entry.path))
+
+
+def files_in(folder, out):
+    """The files of the folder but the one that is to be written."""
+    try:
+        entries = sorted(entry.path for entry in os.scandir(folder) if is_taken(entry))
+    except OSError as error:
+        raise Failure(f"{folder} cannot be read: {error.strerror}") from None
+    found = [path for path in entries if os.path.realpath(path) != os.path.realpath(out)]
+    if not found:
+        raise Failure(f"{folder} has no files")
+    return found
+
+
+def leave_interrupts():
+    """In a worker: Ctrl-C is told to the command alone, which ends its workers."""
+    signal.signal(signal.SIGINT, signal.SIG_IGN)
+    signal.signal(signal.SIGTERM, signal.SIG_DFL)
+
+
+def results(paths):
+    """What comes of each file, in order, by as many processes as there are cores."""
+    cores = len(os.sched_getaffinity(0))
+    with ProcessPoolExecutor(cores, get_context("fork"), leave_interrupts) as workers:
+        try:
+            yield from workers.map(result_of, paths, chunksize=max(1, min(16, len(paths) // (4 * cores))))
+        except BaseException:
+            workers.shutdown(wait=False, cancel_futures=True)
+            raise
+
+
+class Progress:
+    """A line on standard error that tells how far the command is: written anew on a terminal, else ten times."""
+
+    def __init__(self, files, say):
+        self.files, self.say, self.counts = files, say, Counter()
+        self.on_terminal = is_terminal(2)
+
+    def line(self):
+        return (f"{self.counts.total()} of {self.files} files: {self.counts[ACCEPTED]} accepted, {self.counts[REFUSED_FILE]} refused,"
+                f" {self.counts[FAILED_FILE]} failed")
+
+    def count(self, verdict):
+        self.counts[verdict] += 1
+        done = self.counts.total()
+        if self.on_terminal:
+            os.write(2, f"\r{self.line()}{chr(10) if done == self.files else ''}".encode())
+        elif done * 10 // self.files > (done - 1) * 10 // self.files:
+            self.say(self.line())
+
+
+def summary(found, out, seconds):
+    verdicts = Counter(result.verdict for result in found)
+    numbers = Counter(result.number for result in found if result.number)
+    trains = sum(len(result.rows) for result in found if result.verdict == ACCEPTED)
+    yield f"{len(found)} files in {seconds:.1f} s; {out} has {sum(len(result.rows) for result in found)} rows"
+    yield f"  accepted  {verdicts[ACCEPTED]} files with {trains} trains"
+    yield f"  refused   {verdicts[REFUSED_FILE]} files"
+    for number in RULES:
+        if numbers[number]:
+            yield f"    {numbers[number]} by rule {number}: {RULES[number]}"
+    yield f"  failed    {verdicts[FAILED_FILE]} files that could not be read"
+
+
+def status_of(found):
+    verdicts = {result.verdict for result in found}
+    return FAILED if FAILED_FILE in verdicts else REFUSED if REFUSED_FILE in verdicts else 0
+
+
+def run(asked, say):
+    if Path(asked.csv).suffix != ".csv":
+        raise Failure(f"{asked.csv} is no name of a CSV file: it has to end in .csv")
+    began, paths = time.monotonic(), files_in(asked.folder, asked.csv)
+    binding.library()                   # made and loaded once, before the workers are there
+    progress, found = Progress(len(paths), say), []
+    for result in results(paths):
+        found.append(result)
+        progress.count(result.verdict)
+    write_file(asked.csv, as_csv(HEADER, (row for result in found for row in result.rows)))
+    print_lines(summary(found, asked.csv, time.monotonic() - began))
+    return status_of(found)

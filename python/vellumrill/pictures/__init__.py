@@ -1,0 +1,1 @@
+"""Pictures, drawn with matplotlib from figures of the library."""

@@ -1,0 +1,85 @@
+"""What the pictures have in common: an empty one, its axes of distance and time, and how it is saved."""
+
+import io
+import sys
+from importlib.util import find_spec
+
+from ..messages import Failure
+from ..output import write_file
+
+KINDS = {"svg": {"Date": None}, "png": {"Software": None}, "pdf": {"CreationDate": None}}   # with what is left out of each, so that
+                                                                                            # equal figures give equal bytes
+SETTINGS = {"svg.hashsalt": "vellumrill", "svg.fonttype": "none", "font.size": 9, "axes.titlesize": 11, "axes.spines.right": False,
+            "axes.grid": True, "grid.color": "#e4e4e4", "grid.linewidth": 0.6, "axes.axisbelow": True}
+DOTS_PER_INCH = 130
+COLOURS = {"intercity": "#1f5fa8", "stopping": "#2b8a4b", "goods": "#a2591c"}
+RED = "#c62828"
+SHORT = 8                               # minutes; a shorter axis of time has ticks between whole minutes
+GREY = "#777777"
+
+
+def need_matplotlib():
+    if find_spec("matplotlib") is None:
+        raise Failure("drawing needs matplotlib, which is not there for this Python,"
+                      f" {sys.executable}; on Debian, `apt-get install python3-matplotlib` gives it to /usr/bin/python3."
+                      " All other words work without it")
+
+
+def empty(rows, width, height, ratios):
+    """A figure with so many axes, one above the other, over the same distance."""
+    import matplotlib
+    from matplotlib.figure import Figure
+    matplotlib.rcParams.update(SETTINGS)
+    figure = Figure(figsize=(width, height), dpi=DOTS_PER_INCH, layout="constrained")
+    return figure, figure.subplots(rows, 1, sharex=True, squeeze=False, height_ratios=ratios)[:, 0]
+
+
+def minutes(microseconds):
+    return microseconds / 60_000_000
+
+
+def passages(train):
+    """The places of the head in km and its times from the start on in microseconds; at a stop on the way, when it comes and when it
+    leaves."""
+    dwells, last = dict(train.given.pairs["stop"]), len(train.points) - 1
+    for i, point in enumerate(train.points):
+        yield point.position / 1000, point.arrival
+        if i in dwells and 0 < i < last:
+            yield point.position / 1000, point.arrival + 1_000_000 * dwells[i]
+
+
+def tick(value, with_seconds):
+    """Minutes as h:mm or h:mm:ss."""
+    seconds = round(60 * value)
+    return f"{seconds // 3600}:{seconds // 60 % 60:02}" + (f":{seconds % 60:02}" if with_seconds else "")
+
+
+def show_time(axes, words, last):
+    """The axis of time, which ends with this minute."""
+    with_seconds = last < SHORT
+    axes.set_ylabel(f"{words}, {'h:mm:ss' if with_seconds else 'h:mm'}")
+    axes.yaxis.set_major_formatter(lambda value, position: tick(value, with_seconds))
+
+
+def show_distance(axes, line):
+    axes.set_xlim(0, (line.sizes["points"] - 1) * line.sizes["step"] / 1000)
+    axes.set_xlabel("distance in km")
+
+
+def show_blocks(axes, line):
+    """The boundaries of the blocks as lines, and the numbers of the blocks above."""
+    step = line.sizes["step"]
+    for place in sorted({point for block in line.pairs["block"] for point in block}):
+        axes.axvline(place * step / 1000, color="#d0d0d0", linewidth=0.7, zorder=0.5)
+    above = axes.secondary_xaxis("top")
+    above.set_xticks([(start + end) * step / 2000 for start, end in line.pairs["block"]],
+                     [str(number) for number in range(1, len(line.pairs["block"]) + 1)], fontsize=7)
+    above.tick_params(length=0, pad=1)
+    above.set_xlabel("block", fontsize=8)
+
+
+def save(figure, name, kind):
+    """Writes the picture; a file keeps what it had where this fails."""
+    picture = io.BytesIO()
+    figure.savefig(picture, format=kind, metadata=KINDS[kind])
+    write_file(name, picture.getvalue())
