@@ -15,7 +15,7 @@ from yardstick import VERSION
 CRATES = TOP_FOLDER / "crates"
 PAGES = [TOP_FOLDER / "README.md", *sorted((TOP_FOLDER / "docs").glob("*.md"))]
 RULES, CALLS = (TOP_FOLDER / "docs" / name for name in ("RULES.md", "CALLS.md"))
-PLACES = ("crates", "docs", "examples", "include", "tests", "tools", "bench", ".ci")
+PLACES = ("crates", "docs", "examples", "include", "tests", "tools", "python", "bench", ".ci")
 
 
 # ---- commands
@@ -75,7 +75,7 @@ class Documents(unittest.TestCase):
                     with self.subTest(page=page.name, command=command):
                         done = subprocess.run(["bash", "-c", command], cwd=TOP_FOLDER, capture_output=True, text=True)
                         self.assertIn(shown, (done.stdout, done.stdout + done.stderr))
-                        self.assertEqual(done.returncode, 1 if shown.startswith("refused") else 0)
+                        self.assertEqual(done.returncode, 1 if re.match(r"(?:\S+: )?refused", shown) else 0)
 
     def test_every_paragraph_has_its_references(self):
         numbers = re.findall(r"(?m)^\*\*(\d+\.\d+)", RULES.read_text())

@@ -320,6 +320,15 @@ class Usage(InFolder):
             self.assertEqual(done.returncode, 2)
             self.assertIn(b"standard output is closed", done.stderr)
 
+    def test_closed_pipe(self):
+        """Behind head the command ends without a word."""
+        for word in ("figures", "sheet", "--help"):
+            reading, writing = os.pipe()
+            os.close(reading)
+            done = vellumrill(word, EXAMPLES / "valley.txt", stdout=writing)
+            os.close(writing)
+            self.assertEqual((done.returncode, done.stderr), (141, b""))
+
     def test_from_elsewhere(self):
         (self.folder / "link").symlink_to(COMMAND)
         self.put("sample.line", packed("sample.txt"))

@@ -1,4 +1,4 @@
-"""Times, speeds and positions as people read them. Nothing is rounded but where a name says so."""
+"""Times, speeds, positions and counts as people read them. Nothing is rounded but where a name says so."""
 
 SECOND = 1_000_000                      # microseconds
 
@@ -21,3 +21,7 @@ def kilometres(metres: int) -> str:
 def kmh(hundredths: int) -> str:
     """A speed in km/h."""
     return f"{hundredths // 100}.{hundredths % 100:02}"
+
+
+def counted(count: int, thing: str) -> str:
+    return f"{count} {thing}{'' if count == 1 else 's'}"

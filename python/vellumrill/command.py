@@ -1,11 +1,14 @@
 """The command `vellumrill`, and its words."""
 
 import argparse
+import signal
 
 from .commands import batch, check, figures, headway, period, plot, sheet
+from .output import ClosedPipe
 from .running import parser_of, run
 
 NAME = "vellumrill"
+NOT_READ = 128 + signal.SIGPIPE
 ABOUT = """\
 Running times, block holds and earliest starts of a line under ERTMS Level 2.
 All figures come from a proved library."""
@@ -20,6 +23,7 @@ exit status:
        missing or could not be made, or output that was not written
   3    of headway: the file has one train, so no headway
   130  interrupted by Ctrl-C
+  141  whoever read the output has ended, as behind `head`
 """
 WORDS = {"sheet": sheet, "headway": headway, "check": check, "figures": figures, "period": period, "plot": plot, "batch": batch}
 
@@ -38,6 +42,9 @@ def command_line():
 def main(arguments):
     """Does what the arguments ask, and gives the exit status."""
     def obey(say):
-        asked = command_line().parse_args(arguments)
-        return asked.run(asked, say)
+        try:
+            asked = command_line().parse_args(arguments)
+            return asked.run(asked, say)
+        except ClosedPipe:              # as behind `head`: it is meant so
+            return NOT_READ
     return run(NAME, obey)

@@ -6,6 +6,10 @@ import tempfile
 from .messages import Failure
 
 
+class ClosedPipe(Failure):
+    """Whoever read standard output has ended."""
+
+
 def need_output():
     try:
         os.fstat(1)
@@ -22,7 +26,8 @@ def write_out(data):
     try:
         write_all(1, data)
     except OSError as error:
-        raise Failure(f"standard output was not written: {error.strerror}") from None
+        kind = ClosedPipe if isinstance(error, BrokenPipeError) else Failure
+        raise kind(f"standard output was not written: {error.strerror}") from None
 
 
 def usual_mode():

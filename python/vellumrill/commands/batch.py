@@ -11,6 +11,7 @@ from pathlib import Path
 from typing import NamedTuple
 
 from .. import binding, calls, inputs, linetext, refusals
+from ..clock import counted
 from ..messages import Failure
 from ..output import write_file
 from ..rules import RULES, Refusal
@@ -128,13 +129,13 @@ def summary(found, out, seconds):
     verdicts = Counter(result.verdict for result in found)
     numbers = Counter(result.number for result in found if result.number)
     trains = sum(len(result.rows) for result in found if result.verdict == ACCEPTED)
-    yield f"{len(found)} files in {seconds:.1f} s; {out} has {sum(len(result.rows) for result in found)} rows"
-    yield f"  accepted  {verdicts[ACCEPTED]} files with {trains} trains"
-    yield f"  refused   {verdicts[REFUSED_FILE]} files"
+    yield f"{counted(len(found), 'file')} in {seconds:.1f} s; {out} has {counted(sum(len(result.rows) for result in found), 'row')}"
+    yield f"  accepted  {counted(verdicts[ACCEPTED], 'file')} with {counted(trains, 'train')}"
+    yield f"  refused   {counted(verdicts[REFUSED_FILE], 'file')}"
     for number in RULES:
         if numbers[number]:
             yield f"    {numbers[number]} by rule {number}: {RULES[number]}"
-    yield f"  failed    {verdicts[FAILED_FILE]} files that could not be read"
+    yield f"  failed    {counted(verdicts[FAILED_FILE], 'file')} that could not be read"
 
 
 def status_of(found):

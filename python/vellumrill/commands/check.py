@@ -2,6 +2,7 @@
 rule in words, and the train and the entry that break it."""
 
 from .. import calls, refusals
+from ..clock import counted
 from ..inputs import spoken
 from ..rules import Refusal
 from ..running import REFUSED
@@ -24,7 +25,7 @@ def print_verdict(name, given):
         print_lines([f"{spoken(name)}: refused {refusal.number}", f"  rule: {refusal.words}",
                      f"  here: {refusals.explanation(refusal.number, *given)}"])
         return REFUSED
-    print_lines([f"{spoken(name)}: accepted ({sizes.points} points, {sizes.blocks} blocks, {sizes.trains} trains)"])
+    print_lines([f"{spoken(name)}: accepted ({sizes.points} points, {counted(sizes.blocks, 'block')}, {counted(sizes.trains, 'train')})"])
     return 0
 
 

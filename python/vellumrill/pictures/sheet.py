@@ -1,5 +1,6 @@
 """The time-distance picture of a sheet: each train's path and blocking times, and the block that fixes each start."""
 
+from ..clock import counted
 from .drawing import COLOURS, GREY, RED, empty, minutes, passages, show_blocks, show_distance, show_time
 
 PALE = 0.28                             # how much colour a box has
@@ -59,5 +60,5 @@ def draw_sheet(figures, title):
     show_time(axes, "time on the sheet", last)
     axes.tick_params(axis="y", pad=14)
     show_legend(axes, figures)
-    axes.set_title(f"{title}: {len(trains)} {'trains' if len(trains) > 1 else 'train'}")
+    axes.set_title(f"{title}: {counted(len(trains), 'train')}")
     return figure
