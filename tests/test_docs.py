@@ -110,6 +110,10 @@ class Documents(unittest.TestCase):
                 with self.subTest(page=page.name, path=path):
                     self.assertTrue((TOP_FOLDER / path).exists())
 
+    def test_pictures_are_there(self):
+        shown = {page.parent / name for page in PAGES for name in re.findall(r"!\[[^]]*\]\(([^)]*)\)", page.read_text())}
+        self.assertEqual(shown, set((TOP_FOLDER / "docs" / "pictures").iterdir()))
+
 
 def setUpModule():
     need_archive()

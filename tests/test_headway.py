@@ -15,18 +15,16 @@ from pathlib import Path
 
 sys.dont_write_bytecode = True
 
-from balises import with_some_balises
 from knobs import take_options
 from places import EXAMPLES, TOP_FOLDER
+from some_files import packed, random_file, with_trains
 from yardstick import VERSION, headway_call, hold_call, parse, sample_line, write_line
 
 import building
 from asking import ask, rows_in
 from pairs import last_headway
 from records import split_records, with_records
-from vectors import random_line
-from vellumrill.clock import seconds_up
-from vellumrill.linetext import decode, read_text, to_bytes
+from vellumrill.readable import seconds_up
 from vellumrill.messages import speaker
 
 HEADWAY = TOP_FOLDER / "headway"
@@ -40,10 +38,6 @@ def setUpModule():
     building.bring_up_to_date(building.PROGRAM, speaker("test_headway"))
 
 
-def packed(name):
-    return to_bytes(read_text(decode((EXAMPLES / name).read_bytes())))
-
-
 def headway(*arguments, given=b"", **options):
     """A run of ./headway."""
     options.setdefault("stdout", subprocess.PIPE)
@@ -55,18 +49,6 @@ def calculated(data):
     line = parse(data)
     first, second = (hold_call(data, k, [0] * line.P, [0] * line.P) for k in (len(line.trains) - 2, len(line.trains) - 1))
     return headway_call(first, second)
-
-
-def random_file(rng):
-    line = random_line(rng, VERSION, 3, rng.choice([6, 12, 30]), rng.randint(2, 5))
-    return write_line(with_some_balises(rng, line))
-
-
-def with_trains(count):
-    """The file of the sample line with so many of its trains."""
-    line = sample_line()
-    line.trains = (count * line.trains)[:count]
-    return write_line(line)
 
 
 class Headways(unittest.TestCase):

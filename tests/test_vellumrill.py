@@ -13,17 +13,16 @@ from pathlib import Path
 
 sys.dont_write_bytecode = True
 
-from balises import with_some_balises
 from library import need_shared_object
 from places import EXAMPLES, TOP_FOLDER
+from some_files import packed, random_file, with_trains
 from yardstick import POINT_SIZE, VERSION, accepted_line, add_call, diagram_call, headway_call, hold_call, open_call, parse
-from yardstick import period_call, program, sample_line, write_line
+from yardstick import period_call, program
 
-from vectors import random_line
-from vellumrill.clock import clock, kilometres, kmh
+from vellumrill.readable import clock, kilometres, kmh
 from vellumrill.commands import figures as figures_word
 from vellumrill.commands.period import binding_blocks
-from vellumrill.linetext import CLASS_NAMES, decode, read_text, to_bytes
+from vellumrill.linetext import CLASS_NAMES
 
 COMMAND = TOP_FOLDER / "vellumrill"
 WORDS = ("sheet", "headway", "check", "figures", "period", "plot", "batch")
@@ -39,15 +38,6 @@ def vellumrill(*arguments, **options):
     """A run of the command."""
     options.setdefault("stdout", subprocess.PIPE)
     return subprocess.run([COMMAND, *arguments], stderr=subprocess.PIPE, timeout=SECONDS, **options)
-
-
-def packed(name):
-    return to_bytes(read_text(decode((EXAMPLES / name).read_bytes())))
-
-
-def random_file(rng):
-    line = random_line(rng, VERSION, 3, rng.choice([6, 12, 30]), rng.randint(1, 5))
-    return write_line(with_some_balises(rng, line))
 
 
 def calculated(data):
@@ -101,7 +91,7 @@ class Sheets(InFolder):
 
     def test_table(self):
         rng = random.Random(11)
-        for data in [packed("valley.txt"), *(random_file(rng) for _ in range(5))]:
+        for data in [packed("valley.txt"), *(random_file(rng, 1) for _ in range(5))]:
             table = columns(self.check_done(vellumrill("sheet", self.put("one.line", data))))
             trains = accepted_line(data).trains
             right = [[str(number), CLASS_NAMES[train.cls], clock(start), str(start), clock(run), str(run), str(block)]
@@ -140,16 +130,14 @@ class Headways(InFolder):
     def test_random_files(self):
         rng = random.Random(12)
         for _ in range(10):
-            data = random_file(rng)
+            data = random_file(rng, 1)
             if len(parse(data).trains) > 1:
                 holds, _, _ = calculated(data)
                 done = self.check_done(vellumrill("headway", self.put("one.line", data)))
                 self.assertEqual(int(done), -(-headway_call(*holds[-2:]) // SECOND))
 
     def test_one_train(self):
-        line = sample_line()
-        line.trains = line.trains[:1]
-        done = vellumrill("headway", self.put("one.line", write_line(line)))
+        done = vellumrill("headway", self.put("one.line", with_trains(1)))
         self.assertEqual((done.returncode, done.stdout, done.stderr), (3, b"one train, so no headway\n", b""))
 
 
@@ -213,7 +201,7 @@ class Figures(InFolder):
 
     def test_csv_files(self):
         rng = random.Random(13)
-        for data in [packed("valley.txt"), *(random_file(rng) for _ in range(8))]:
+        for data in [packed("valley.txt"), *(random_file(rng, 1) for _ in range(8))]:
             self.write(data)
             self.check_csv(data, range(len(parse(data).trains)))
 
@@ -263,7 +251,7 @@ class Figures(InFolder):
 class Periods(InFolder):
     def test_period(self):
         rng = random.Random(14)
-        for data in [packed("sample.txt"), packed("valley.txt"), *(random_file(rng) for _ in range(8))]:
+        for data in [packed("sample.txt"), packed("valley.txt"), *(random_file(rng, 1) for _ in range(8))]:
             holds, sheet, rows = calculated(data)
             period, percent = period_call(sheet)
             lines = self.check_done(vellumrill("period", self.put("one.line", data))).splitlines()

@@ -2,7 +2,7 @@
 
 from commands import Command, run
 from pairs import last_headway
-from vellumrill.clock import seconds_up
+from vellumrill.readable import seconds_up
 from vellumrill.commands.headway import NO_HEADWAY, ONE_TRAIN
 
 ABOUT = """\

@@ -118,7 +118,8 @@ def diagram(file: Bytes, k: int) -> list[DiagramPoint]:
     lent = (c_uint8 * length)()
     answer = binding.library().vr_diagram(*lent_file(file), whole(k, "k"), lent, length)
     accepted(answer.number)
-    return [DiagramPoint(*doubles, dot == 1) for *doubles, dot in struct.iter_unpack(POINT, bytes(lent)[:answer.bytes])]
+    return [DiagramPoint(position, speed, arrival, dot == 1)
+            for position, speed, arrival, dot in struct.iter_unpack(POINT, bytes(lent)[:answer.bytes])]
 
 
 # ------------------------------------------------------------ sheets of starts

@@ -79,7 +79,7 @@ def read_line_text(name):
 class Given(NamedTuple):
     """The line file that is asked about."""
     data: bytes
-    line: linetext.Line = None          # what its text says, where it has one
+    line: linetext.Line | None = None   # what its text says, where it has one
 
 
 def given(name, most):

@@ -3,6 +3,8 @@
 import re
 import struct
 
+from .readable import counted
+
 GREATEST = 65535
 SHOWN = 40                              # characters of a wrong word
 CLASS_NAMES = ("intercity", "stopping", "goods")
@@ -228,7 +230,7 @@ class Bytes:
         end = self.at + 2 * count
         if end > len(self.data):
             raise FileFault(f"cut short: {name} should fill bytes {self.at} to {end - 1},"
-                            f" but the file has {len(self.data)} bytes")
+                            f" but the file has {counted(len(self.data), 'byte')}")
         found = struct.unpack_from(f"<{count}H", self.data, self.at)
         self.at = end
         return found

@@ -16,10 +16,10 @@ class Broken(NamedTuple):
     part: str
     value: int                          # the number that breaks it
     words: str
-    entry: int = None
-    word: str = None                    # that the entry has in a line text
-    number: int = None                  # of the rule
-    train: int = None
+    entry: int | None = None
+    word: str | None = None             # that the entry has in a line text
+    number: int | None = None           # of the rule
+    train: int | None = None
 
 
 def beside(pairs):

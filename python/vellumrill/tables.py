@@ -1,7 +1,6 @@
 """Tables: aligned for people, or CSV for programs."""
 
-import csv
-import io
+import re
 
 
 def aligned(header, rows):
@@ -13,10 +12,12 @@ def aligned(header, rows):
             for row in cells]
 
 
+def csv_cell(cell):
+    """In quotes where it has a comma, a quote or an end of a line."""
+    text = str(cell)
+    return '"' + text.replace('"', '""') + '"' if re.search('[,"\r\n]', text) else text
+
+
 def as_csv(header, rows):
     """The bytes of a CSV file with a header line."""
-    text = io.StringIO()
-    writer = csv.writer(text, lineterminator="\n")
-    writer.writerow(header)
-    writer.writerows(rows)
-    return text.getvalue().encode("utf-8", "surrogateescape")
+    return "".join(",".join(map(csv_cell, row)) + "\n" for row in (header, *rows)).encode("utf-8", "surrogateescape")

@@ -1,17 +1,19 @@
 """Computes the sheets of all files in a folder, and writes a CSV file with a row
 for each train, or for the file where it is refused or cannot be read."""
 
+import contextlib
 import os
 import signal
 import time
 from collections import Counter
 from concurrent.futures import ProcessPoolExecutor
+from concurrent.futures.process import BrokenProcessPool
 from multiprocessing import get_context
 from pathlib import Path
 from typing import NamedTuple
 
 from .. import binding, calls, inputs, linetext, refusals
-from ..clock import counted
+from ..readable import counted
 from ..messages import Failure
 from ..output import write_file
 from ..rules import RULES, Refusal
@@ -73,7 +75,12 @@ def result_of(path):
 
 def is_taken(entry):
     """Whether an entry of the folder is a file that is not hidden, or should be one: a link that leads nowhere."""
-    return not entry.name.startswith(".") and (entry.is_file() or entry.is_symlink() and not os.path.exists(entry.path))
+    if entry.name.startswith("."):
+        return False
+    try:
+        return entry.is_file() or entry.is_symlink() and not os.path.exists(entry.path)
+    except OSError:                     # a link in a circle, or through a file
+        return True
 
 
 def files_in(folder, out):
@@ -94,12 +101,26 @@ def leave_interrupts():
     signal.signal(signal.SIGTERM, signal.SIG_DFL)
 
 
+@contextlib.contextmanager
+def interrupts_later():
+    """Ctrl-C waits while the workers are started: there it could be lost."""
+    before = signal.pthread_sigmask(signal.SIG_BLOCK, {signal.SIGINT})
+    try:
+        yield
+    finally:
+        signal.pthread_sigmask(signal.SIG_SETMASK, before)
+
+
 def results(paths):
     """What comes of each file, in order, by as many processes as there are cores."""
     cores = len(os.sched_getaffinity(0))
     with ProcessPoolExecutor(cores, get_context("fork"), leave_interrupts) as workers:
         try:
-            yield from workers.map(result_of, paths, chunksize=max(1, min(16, len(paths) // (4 * cores))))
+            with interrupts_later():
+                found = workers.map(result_of, paths, chunksize=max(1, min(16, len(paths) // (4 * cores))))
+            yield from found
+        except BrokenProcessPool:
+            raise Failure("a process of this command was ended from outside, so nothing is written") from None
         except BaseException:
             workers.shutdown(wait=False, cancel_futures=True)
             raise

@@ -2,7 +2,7 @@
 rule in words, and the train and the entry that break it."""
 
 from .. import calls, refusals
-from ..clock import counted
+from ..readable import counted
 from ..inputs import spoken
 from ..rules import Refusal
 from ..running import REFUSED

@@ -4,7 +4,7 @@ every point, the hold of every block, the start and the block that fixed it."""
 import os
 from pathlib import Path
 
-from ..clock import clock, kilometres, kmh
+from ..readable import clock, kilometres, kmh
 from ..figures import figures_of
 from ..inputs import STANDARD_INPUT
 from ..messages import Failure

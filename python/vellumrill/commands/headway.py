@@ -3,7 +3,7 @@ it: how long after the first of the two the second may start, if only these two
 run."""
 
 from .. import calls
-from ..clock import seconds_up
+from ..readable import seconds_up
 from .asked import add_file, for_file, print_lines
 
 HELP = "the headway of the last two trains, for a panel"

@@ -2,7 +2,7 @@
 more, round behind round, its percentage of an hour, and the block that binds."""
 
 from .. import calls
-from ..clock import clock
+from ..readable import clock
 from ..figures import figures_of
 from .asked import add_file, for_file, print_lines
 

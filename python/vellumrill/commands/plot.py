@@ -2,9 +2,11 @@
 times and the block that fixes each start; or with --train the speed-distance
 diagram of one train, with its limits and stops."""
 
+import os
 from pathlib import Path
 
 from ..figures import figures_of
+from ..inputs import spoken
 from ..messages import Failure
 from ..pictures import drawing
 from ..pictures.sheet import draw_sheet
@@ -37,12 +39,12 @@ def kind_of(name):
     return kind
 
 
-def picture_of(data, title, number):
+def picture_of(data, name, number):
     figures = figures_of(data)
     if number is None:
-        return draw_sheet(figures, title)
+        return draw_sheet(figures, name)
     [train] = chosen(figures, number)
-    return draw_speed(figures.line, train, title)
+    return draw_speed(figures.line, train, name)
 
 
 def run(asked, say):
@@ -50,6 +52,6 @@ def run(asked, say):
     drawing.need_matplotlib()
 
     def answer(data):
-        drawing.save(picture_of(data, Path(asked.file).name, asked.train), asked.out, kind)
+        drawing.save(picture_of(data, os.path.basename(spoken(asked.file)), asked.train), asked.out, kind)
         return 0
     return for_file(asked.file, answer, say)

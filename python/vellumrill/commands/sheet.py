@@ -2,7 +2,7 @@
 that fixed its start, or 0."""
 
 from .. import calls, linetext
-from ..clock import clock
+from ..readable import clock
 from ..inputs import spoken
 from ..output import write_out
 from ..tables import aligned

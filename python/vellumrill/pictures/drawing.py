@@ -2,27 +2,29 @@
 
 import io
 import sys
-from importlib.util import find_spec
+import warnings
 
 from ..messages import Failure
 from ..output import write_file
 
-KINDS = {"svg": {"Date": None}, "png": {"Software": None}, "pdf": {"CreationDate": None}}   # with what is left out of each, so that
-                                                                                            # equal figures give equal bytes
+# The endings of pictures, with what is left out of each so that equal figures give equal bytes.
+KINDS = {"svg": {"Date": None}, "png": {"Software": None}, "pdf": {"CreationDate": None}}
 SETTINGS = {"svg.hashsalt": "vellumrill", "svg.fonttype": "none", "font.size": 9, "axes.titlesize": 11, "axes.spines.right": False,
             "axes.grid": True, "grid.color": "#e4e4e4", "grid.linewidth": 0.6, "axes.axisbelow": True}
 DOTS_PER_INCH = 130
 COLOURS = {"intercity": "#1f5fa8", "stopping": "#2b8a4b", "goods": "#a2591c"}
 RED = "#c62828"
-SHORT = 8                               # minutes; a shorter axis of time has ticks between whole minutes
 GREY = "#777777"
+TICKS = (0.1, 0.25, 0.5, 1, 2, 5, 10, 15, 30, 60, 120, 240, 480)       # minutes between two ticks of an axis of time
+MOST_TICKS = 14
 
 
 def need_matplotlib():
-    if find_spec("matplotlib") is None:
-        raise Failure("drawing needs matplotlib, which is not there for this Python,"
-                      f" {sys.executable}; on Debian, `apt-get install python3-matplotlib` gives it to /usr/bin/python3."
-                      " All other words work without it")
+    try:
+        import matplotlib.figure  # noqa: F401
+    except ImportError as error:
+        raise Failure(f"drawing needs matplotlib, and {sys.executable} cannot load it ({error}); on Debian,"
+                      " `apt-get install python3-matplotlib` gives it to /usr/bin/python3. All other words work without it") from None
 
 
 def empty(rows, width, height, ratios):
@@ -54,11 +56,20 @@ def tick(value, with_seconds):
     return f"{seconds // 3600}:{seconds // 60 % 60:02}" + (f":{seconds % 60:02}" if with_seconds else "")
 
 
-def show_time(axes, words, last):
+def show_time(axes, words, last, most_ticks=MOST_TICKS):
     """The axis of time, which ends with this minute."""
-    with_seconds = last < SHORT
+    from matplotlib.ticker import MultipleLocator
+    between = next((between for between in TICKS if last <= between * most_ticks), TICKS[-1])
+    with_seconds = between < 1
     axes.set_ylabel(f"{words}, {'h:mm:ss' if with_seconds else 'h:mm'}")
+    axes.yaxis.set_major_locator(MultipleLocator(between))
     axes.yaxis.set_major_formatter(lambda value, position: tick(value, with_seconds))
+
+
+def show_legend(axes, entries):
+    """What the colours and lines stand for, below the axis of distance."""
+    below = 0.55 / axes.get_figure().get_figheight() / axes.get_position().height
+    axes.legend(handles=entries, loc="upper center", bbox_to_anchor=(0.5, -below), ncols=len(entries), fontsize=8, frameon=False)
 
 
 def show_distance(axes, line):
@@ -78,8 +89,16 @@ def show_blocks(axes, line):
     above.set_xlabel("block", fontsize=8)
 
 
+def show_title(axes, name, words):
+    """The name of the file and what is shown of it. Letters that cannot be printed are shown as a question mark."""
+    plain = "".join(letter if letter.isprintable() else "?" for letter in name)
+    axes.set_title(f"{plain}: {words}", parse_math=False)
+
+
 def save(figure, name, kind):
-    """Writes the picture; a file keeps what it had where this fails."""
+    """Writes the picture; a file keeps what it had where this fails. Letters that the font lacks are no reason to warn."""
     picture = io.BytesIO()
-    figure.savefig(picture, format=kind, metadata=KINDS[kind])
+    with warnings.catch_warnings():
+        warnings.simplefilter("ignore")
+        figure.savefig(picture, format=kind, metadata=KINDS[kind])
     write_file(name, picture.getvalue())

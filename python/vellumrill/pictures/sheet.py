@@ -1,7 +1,7 @@
 """The time-distance picture of a sheet: each train's path and blocking times, and the block that fixes each start."""
 
-from ..clock import counted
-from .drawing import COLOURS, GREY, RED, empty, minutes, passages, show_blocks, show_distance, show_time
+from ..readable import counted
+from .drawing import COLOURS, GREY, RED, empty, minutes, passages, show_blocks, show_distance, show_legend, show_time, show_title
 
 PALE = 0.28                             # how much colour a box has
 
@@ -34,20 +34,20 @@ def draw_binding(axes, line, train):
                       fontsize=7, color=RED, zorder=5, bbox={"facecolor": "white", "alpha": 0.75, "edgecolor": "none", "pad": 0.6})
 
 
-def show_legend(axes, figures):
+def legend_entries(figures):
     from matplotlib.lines import Line2D
     from matplotlib.patches import Patch
     classes = sorted({train.class_word for train in figures.trains}, key=list(COLOURS).index)
     entries = [Line2D([], [], color=COLOURS[word], linewidth=1.3, label=word) for word in classes]
     entries.append(Patch(facecolor=GREY, alpha=PALE, edgecolor=GREY, label="hold of a block"))
     entries.append(Line2D([], [], color=RED, linewidth=3, label="block that fixes the start"))
-    axes.legend(handles=entries, loc="upper right", fontsize=8)
+    return entries
 
 
-def draw_sheet(figures, title):
+def draw_sheet(figures, name):
     """The figure, time running downwards."""
     line, trains = figures.line, figures.trains
-    figure, (axes,) = empty(1, 12, min(8 + 0.15 * len(trains), 16), (1,))
+    figure, (axes,) = empty(1, 12, max(8, 4 + 0.5 * len(trains)), (1,))
     show_blocks(axes, line)
     show_distance(axes, line)
     for train in trains:
@@ -59,6 +59,6 @@ def draw_sheet(figures, title):
     axes.set_ylim(1.01 * last, 0)
     show_time(axes, "time on the sheet", last)
     axes.tick_params(axis="y", pad=14)
-    show_legend(axes, figures)
-    axes.set_title(f"{title}: {counted(len(trains), 'train')}")
+    show_legend(axes, legend_entries(figures))
+    show_title(axes, name, counted(len(trains), "train"))
     return figure

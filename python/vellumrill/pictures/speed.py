@@ -1,7 +1,7 @@
 """The speed-distance diagram of a train, from the doubles of the diagram call."""
 
-from ..clock import clock
-from .drawing import COLOURS, GREY, RED, empty, minutes, passages, show_blocks, show_distance, show_time
+from ..readable import clock
+from .drawing import COLOURS, GREY, RED, empty, minutes, passages, show_blocks, show_distance, show_legend, show_time, show_title
 
 
 def limit_steps(line):
@@ -41,10 +41,10 @@ def draw_times(axes, train, colour):
     places, times = zip(*passages(train))
     axes.plot(places, [minutes(time) for time in times], color=colour, linewidth=1.1, gid="times")
     axes.set_ylim(bottom=0)
-    show_time(axes, "time", minutes(train.run))
+    show_time(axes, "time", minutes(train.run), most_ticks=6)
 
 
-def draw_speed(line, train, title):
+def draw_speed(line, train, name):
     """The figure: speeds over the distance with limits and stops, and below it the times."""
     figure, (speeds, times) = empty(2, 12, 7, (3, 1))
     colour = COLOURS[train.class_word]
@@ -54,9 +54,8 @@ def draw_speed(line, train, title):
     show_blocks(speeds, line)
     speeds.set_ylabel("speed in km/h")
     speeds.set_ylim(bottom=0, top=1.12 * max(limit for _, limit in line.pairs["limit"]))
-    speeds.legend(loc="lower right", fontsize=8, ncols=4)
-    speeds.set_title(f"{title}: train {train.number}, {train.class_word}, {train.given.sizes['length']} m,"
-                     f" running time {clock(train.run)}")
+    show_title(speeds, name, f"train {train.number}, {train.class_word}, {train.given.sizes['length']} m, running time {clock(train.run)}")
     draw_times(times, train, colour)
     show_distance(times, line)
+    show_legend(times, speeds.get_legend_handles_labels()[0])
     return figure
