@@ -2,8 +2,8 @@
 
 from commands import Command, run
 from pairs import last_headway
-from vellumrill.readable import seconds_up
 from vellumrill.commands.headway import NO_HEADWAY, ONE_TRAIN
+from vellumrill.readable import seconds_up
 
 ABOUT = """\
 Prints the headway of the last two trains of a line, in whole seconds: how long

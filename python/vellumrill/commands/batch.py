@@ -13,9 +13,9 @@ from pathlib import Path
 from typing import NamedTuple
 
 from .. import binding, calls, inputs, linetext, refusals
-from ..readable import counted
 from ..messages import Failure
 from ..output import write_file
+from ..readable import counted
 from ..rules import RULES, Refusal
 from ..running import FAILED, REFUSED, is_terminal
 from ..tables import as_csv

@@ -2,8 +2,8 @@
 rule in words, and the train and the entry that break it."""
 
 from .. import calls, refusals
-from ..readable import counted
 from ..inputs import spoken
+from ..readable import counted
 from ..rules import Refusal
 from ..running import REFUSED
 from .asked import add_files, for_each, print_lines

@@ -4,11 +4,11 @@ every point, the hold of every block, the start and the block that fixed it."""
 import os
 from pathlib import Path
 
-from ..readable import clock, kilometres, kmh
 from ..figures import figures_of
 from ..inputs import STANDARD_INPUT
 from ..messages import Failure
 from ..output import write_file
+from ..readable import clock, kilometres, kmh
 from ..tables import aligned, as_csv
 from .asked import add_file, for_file, print_lines
 

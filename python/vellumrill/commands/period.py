@@ -2,8 +2,8 @@
 more, round behind round, its percentage of an hour, and the block that binds."""
 
 from .. import calls
-from ..readable import clock
 from ..figures import figures_of
+from ..readable import clock
 from .asked import add_file, for_file, print_lines
 
 HELP = "the shortest repeat of the sheet, and what binds it"

@@ -2,9 +2,9 @@
 that fixed its start, or 0."""
 
 from .. import calls, linetext
-from ..readable import clock
 from ..inputs import spoken
 from ..output import write_out
+from ..readable import clock
 from ..tables import aligned
 from .asked import add_files, answered, for_each, print_lines
 
