@@ -219,6 +219,7 @@ class Names(Folders):
             done = self.done(0)
         self.assertEqual(self.rows(), calculated_rows("a", SAMPLE))
         self.assertIn(b"1 of 1 files", done.stderr)
+        self.assertEqual(done.stdout.splitlines()[-1], b"  left out  10 that are folders, hidden or no plain files")
 
     def test_odd_names_survive(self):
         """Rows stand in the order of the names, and every name is as it was."""
@@ -325,9 +326,9 @@ class Out(Folders):
         self.out.write_bytes(OLD)
         self.put({".hidden": SAMPLE})
         (self.folder / "folder").mkdir()
-        self.check_failed(batch(self.folder, self.out), f"{self.folder} has no files")
+        self.check_failed(batch(self.folder, self.out), f"{self.folder} has no files; folders in it are not entered")
         (self.folder / "out.csv").write_bytes(OLD)
-        self.check_failed(batch(self.folder, self.folder / "out.csv"), f"{self.folder} has no files")
+        self.check_failed(batch(self.folder, self.folder / "out.csv"), f"{self.folder} has no files; folders in it are not entered")
 
     def test_folder_that_cannot_be_read(self):
         self.out.write_bytes(OLD)
@@ -337,6 +338,7 @@ class Out(Folders):
             self.check_failed(batch(folder, self.out), f"{folder} cannot be read: {words}")
 
     def test_out_that_cannot_be_written(self):
+        """This is known before the first file is taken."""
         self.put({"a": SAMPLE})
         out = self.top / "no" / "out.csv"
         self.check_failed(batch(self.folder, out), f"{out} was not written: No such file or directory", old=False)
@@ -455,6 +457,7 @@ def on_two_cores():
 
 class Signals(Folders):
     COUNT = 3000                        # files, of which each takes a millisecond or more
+    INTERRUPTED = b"vellumrill: interrupted, so nothing is written\n"
 
     def started(self):
         """A run that has done a tenth, and its first line."""
@@ -468,8 +471,8 @@ class Signals(Folders):
                                    stdout=subprocess.PIPE, stderr=subprocess.PIPE, start_new_session=True, preexec_fn=on_two_cores)
         return running, running.stderr.readline()
 
-    def check_ended(self, send, status):
-        """It ends with the status, says nothing more, and leaves neither a process nor a changed file."""
+    def check_ended(self, send, status, last=b""):
+        """It ends with the status, says no more than this, and leaves neither a process nor a changed file."""
         running, first = self.started()
         with running:
             self.assertEqual(first, b"vellumrill: %d of %d files: %d accepted, 0 refused, 0 failed\n"
@@ -478,16 +481,16 @@ class Signals(Folders):
             printed, told = running.communicate(timeout=SECONDS)
         self.assertEqual((running.returncode, printed), (status, b""))
         self.assertLess(told.count(b"\n"), 9)
-        self.assertRegex(told, rb"^(vellumrill: \d+ of \d+ files: .*\n)*$")
+        self.assertRegex(told, rb"^(vellumrill: \d+ of \d+ files: .*\n)*" + last + b"$")
         wait_until(lambda: not is_there(running.pid), "a process is left behind")
         self.assertEqual((self.out.read_bytes(), {path.name for path in self.top.iterdir()}), (OLD, {"files", "heavy", "out.csv"}))
 
     def test_ctrl_c(self):
         """At a terminal all processes of the group get the signal."""
-        self.check_ended(lambda running: os.killpg(running, signal.SIGINT), 130)
+        self.check_ended(lambda running: os.killpg(running, signal.SIGINT), 130, self.INTERRUPTED)
 
     def test_interrupt_of_the_command_alone(self):
-        self.check_ended(lambda running: os.kill(running, signal.SIGINT), 130)
+        self.check_ended(lambda running: os.kill(running, signal.SIGINT), 130, self.INTERRUPTED)
 
     def test_end_asked_for(self):
         self.check_ended(lambda running: os.kill(running, signal.SIGTERM), 128 + signal.SIGTERM)

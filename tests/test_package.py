@@ -164,7 +164,8 @@ class Calls(unittest.TestCase):
         starts = [0, 300_000_000, 1_500_000_000, 2_100_000_000]
         begins, ends = [time for hold in holds for time in hold.begins], [time for hold in holds for time in hold.ends]
         for low, high in ((0, 3_600_000_000), (0, 60_000_000), (2 ** 50, 2 ** 50 + 1), (5, 4)):
-            self.check_same(vellumrill.path, lambda hold, *rest: path_call(padded_hold(hold), *rest), holds[0], starts, begins, ends, low, high)
+            self.check_same(vellumrill.path, lambda hold, *rest: path_call(padded_hold(hold), *rest), holds[0], starts, begins, ends,
+                            low, high)
         self.assertEqual(vellumrill.path(holds[0], starts, begins, ends, 0, 3_600_000_000), (784287634, 2))
 
 
@@ -206,6 +207,11 @@ class Refusals(unittest.TestCase):
     def test_files(self):
         self.check_refused(1, vellumrill.check_file, b"")
         self.check_refused(10, vellumrill.run, vellumrill.read_file(EXAMPLES / "sample.txt"), 2)
+
+    def test_explanation(self):
+        data = vellumrill.pack_text((EXAMPLES / "sample.txt").read_text().replace("length 100", "length 101"))
+        self.check_refused(9, vellumrill.rows, data)
+        self.assertTrue(vellumrill.explanation(data, 9).startswith("train 1: its length of 101 m takes 2 steps"))
 
     def test_words_are_those_of_the_page(self):
         rows = dict(re.findall(r"(?m)^\| (\d+) \| (.*) \|$", (TOP_FOLDER / "docs" / "CALLS.md").read_text()))
@@ -297,12 +303,12 @@ class Library(unittest.TestCase):
         self.assertEqual((done.returncode, done.stdout), (2, ""))
         self.assertTrue(done.stderr.startswith("vellumrill: "))
         self.assertEqual(done.stderr.count("\n"), 1)
-        for word in (str(library), "`tools/sharedlib`", *words):
+        for word in (str(library), "the variable VELLUMRILL_LIBRARY names it", *words):
             self.assertIn(word, done.stderr)
 
-    def linked(self, *words):
+    def linked(self, *words, whole="-Wl,--whole-archive"):
         made = self.folder / "libvellumrill.so"
-        subprocess.run(["gcc", "-shared", "-o", made, "-Wl,--whole-archive", ARCHIVE, "-Wl,--no-whole-archive", *words], check=True)
+        subprocess.run(["gcc", "-shared", "-o", made, whole, ARCHIVE, "-Wl,--no-whole-archive", *words], check=True)
         return made
 
     def test_right_one(self):
@@ -320,6 +326,10 @@ class Library(unittest.TestCase):
 
     def test_no_version(self):
         self.check_told(self.linked(), "is no shared object of Vellumrill")
+
+    def test_calls_that_are_missing(self):
+        made = self.linked(f"-Wl,--defsym=vr_version={VERSION}", whole="-Wl,--no-whole-archive")
+        self.check_told(made, "is no shared object of Vellumrill", "vr_check_file")
 
     def test_no_library_at_all(self):
         text = self.folder / "libvellumrill.so"
@@ -340,6 +350,36 @@ class Library(unittest.TestCase):
     def test_no_compiler(self):
         with mock.patch.dict(os.environ, PATH=str(self.folder)), self.assertRaisesRegex(vellumrill.Failure, "no command `gcc`"):
             linking.linker()
+
+    def sharedlib(self, shared_object, archive):
+        """A run of tools/sharedlib in a copy of the repository with this shared object and this archive, both newer than all sources."""
+        for name in ("tools", "include", "python"):
+            shutil.copytree(TOP_FOLDER / name, self.folder / name, ignore=shutil.ignore_patterns("__pycache__", "*.so"))
+        shutil.copy2(TOP_FOLDER / "crates.txt", self.folder)
+        (self.folder / "target" / "staticlib").mkdir(parents=True)
+        (self.folder / "target" / "staticlib" / "libvellumrill.a").write_bytes(archive)
+        made = self.folder / "python" / "vellumrill" / "libvellumrill.so"
+        if shared_object is not None:
+            made.write_bytes(shared_object)
+        done = subprocess.run([self.folder / "tools" / "sharedlib"], capture_output=True, text=True, timeout=SECONDS)
+        return done, made
+
+    def test_sharedlib_replaces_what_is_not_sound(self):
+        for kind in ("other version", "empty"):
+            with self.subTest(kind):
+                wrong = self.linked(f"-Wl,--defsym=vr_version={VERSION + 1}").read_bytes() if kind == "other version" else b""
+                done, made = self.sharedlib(wrong, ARCHIVE.read_bytes())
+                self.assertEqual((done.returncode, done.stdout), (0, "python/vellumrill/libvellumrill.so is up to date\n"))
+                self.assertIn("so it is linked anew", done.stderr)
+                self.assertEqual(self.ask(made).returncode, 0)
+                shutil.rmtree(self.folder)
+                self.folder.mkdir()
+
+    def test_sharedlib_tells_of_an_archive_that_is_not_whole(self):
+        done, made = self.sharedlib(None, b"")
+        self.assertEqual((done.returncode, done.stdout), (2, ""))
+        self.assertIn("libvellumrill.a is not whole, `rt staticlib vellumrill` makes it anew", done.stderr)
+        self.assertEqual(list(made.parent.glob("libvellumrill.*")), [])
 
     def test_sharedlib(self):
         done = subprocess.run([TOP_FOLDER / "tools" / "sharedlib"], capture_output=True, text=True, timeout=SECONDS)

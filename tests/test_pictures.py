@@ -425,6 +425,13 @@ class SpeedPictures(Pictures):
                     self.assertTrue(left - NEAR <= x <= right + NEAR and highest - NEAR <= y <= bottom + NEAR)
                 self.assertLess(top, highest)
 
+    def test_speeds_have_their_room(self):
+        """Also where all dots are full, as of the tunnel's trains."""
+        for one in diagrams():
+            with self.subTest(one.about()):
+                _, top, _, bottom = one.picture.box("patch_2")
+                self.assertGreater(bottom - top, 250)
+
     def test_times(self):
         """The line of times below: one map from the calculator's times to heights, time running upwards from 0."""
         for one in diagrams():

@@ -238,9 +238,17 @@ class Figures(InFolder):
                               f"there is no train {number}: the file has trains 1 to 8")
 
     def test_folder_that_cannot_be_made(self):
-        self.put("file", "")
-        self.check_failed(vellumrill("figures", EXAMPLES / "sample.txt", "--csv", self.folder / "file"), "file")
-        self.check_failed(vellumrill("figures", EXAMPLES / "sample.txt", "--csv", "/proc/none"), "/proc/none")
+        file = self.put("file", "")
+        for folder, words in ((file, f"{file} is a file, not a folder"), ("/proc/none", "the folder '/proc/none' cannot be made: No such"),
+                              ("", "the folder '' cannot be made: No such file")):
+            self.check_failed(vellumrill("figures", EXAMPLES / "sample.txt", "--csv", folder), words)
+
+    def test_file_that_cannot_be_written(self):
+        """Then none of the three is written."""
+        (self.folder / "out" / "sample-holds.csv").mkdir(parents=True)
+        self.check_failed(vellumrill("figures", EXAMPLES / "sample.txt", "--csv", self.folder / "out"),
+                          "sample-holds.csv was not written: Is a directory")
+        self.assertEqual([path.name for path in (self.folder / "out").iterdir()], ["sample-holds.csv"])
 
     def test_refused_file_writes_nothing(self):
         done = vellumrill("figures", self.put("cut.line", packed("sample.txt")[:-1]), "--csv", self.folder / "out")
@@ -333,8 +341,8 @@ class Usage(InFolder):
 
 class ForPeople(unittest.TestCase):
     def test_clock(self):
-        for microseconds, words in ((0, "0:00:00.000000"), (1, "0:00:00.000001"), (59_999_999, "0:00:59.999999"), (60_000_000, "0:01:00.000000"),
-                                    (3_599_999_999, "0:59:59.999999"), (3_600_000_000, "1:00:00.000000"),
+        for microseconds, words in ((0, "0:00:00.000000"), (1, "0:00:00.000001"), (59_999_999, "0:00:59.999999"),
+                                    (60_000_000, "0:01:00.000000"), (3_599_999_999, "0:59:59.999999"), (3_600_000_000, "1:00:00.000000"),
                                     (100 * 3_600_000_000 + 61_000_007, "100:01:01.000007")):
             self.assertEqual(clock(microseconds), words)
 

@@ -6,7 +6,7 @@ import subprocess
 
 from building import LIBRARY, bring_up_to_date, changed, only_builder, out_of_date, shown
 from header import HEADER, version
-from vellumrill.binding import SHARED_OBJECT, VERSION_SYMBOL
+from vellumrill.binding import SHARED_OBJECT, VERSION_SYMBOL, NoLibrary, checked
 from vellumrill.messages import Failure, end_of
 
 
@@ -23,6 +23,14 @@ def linker():
     raise Failure(f"{shown(SHARED_OBJECT)} is linked by gcc, and no command `gcc` is on the PATH; on Debian the package has this name")
 
 
+def check_linked(path):
+    """An archive that was cut short links without an error."""
+    try:
+        checked(path)
+    except NoLibrary as error:
+        raise Failure(f"{shown(LIBRARY.path)} is not whole, `rt staticlib vellumrill` makes it anew: {error}") from None
+
+
 def link():
     """Links the archive. The version goes along as the value of a symbol, since the archive does not have it."""
     beside = SHARED_OBJECT.with_suffix(".new")
@@ -32,6 +40,7 @@ def link():
         done = subprocess.run(words, stdin=subprocess.DEVNULL, capture_output=True, text=True)
         if done.returncode:
             raise Failure(f"{shown(SHARED_OBJECT)} was not linked: gcc {end_of(done.returncode)}: {done.stderr.strip()}")
+        check_linked(beside)
         newest = max(changed(LIBRARY.path), changed(HEADER))
         os.utime(beside, ns=(newest, newest))
         os.replace(beside, SHARED_OBJECT)

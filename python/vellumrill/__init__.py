@@ -12,11 +12,11 @@ in words. `python3 -m vellumrill --help` lists the commands.
 from .answers import Added, DiagramPoint, Held, Hold, Path, Period, RecordPlace, Rows, Run, Sheet, Sizes
 from .binding import NoLibrary
 from .calls import add, check_file, check_train, diagram, headway, hold, open_sheet, path, period, rows, run, sizes, study, train_record
-from .files import pack_text, read_file, show_text
+from .files import explanation, pack_text, read_file, show_text
 from .messages import Failure
 from .rules import RULES, Refusal
 from .version import VERSION
 
 __all__ = ["Added", "DiagramPoint", "Failure", "Held", "Hold", "NoLibrary", "Path", "Period", "RULES", "RecordPlace", "Refusal", "Rows",
-           "Run", "Sheet", "Sizes", "VERSION", "add", "check_file", "check_train", "diagram", "headway", "hold", "open_sheet",
-           "pack_text", "path", "period", "read_file", "rows", "run", "show_text", "sizes", "study", "train_record"]
+           "Run", "Sheet", "Sizes", "VERSION", "add", "check_file", "check_train", "diagram", "explanation", "headway", "hold",
+           "open_sheet", "pack_text", "path", "period", "read_file", "rows", "run", "show_text", "sizes", "study", "train_record"]

@@ -15,8 +15,6 @@ POINT = "<dddB"                         # the bytes of a point in the diagram: p
 SHARED_OBJECT = Path(__file__).with_name("libvellumrill.so")
 OTHER_PLACE = "VELLUMRILL_LIBRARY"      # the variable that names another shared object
 VERSION_SYMBOL = "vr_version"           # its value is the version of the header that the shared object was made with
-HOW = "`tools/sharedlib`, at the top of Vellumrill's repository, makes it"
-
 make_ready = None                       # called before the shared object is loaded, if it is set
 
 
@@ -102,16 +100,16 @@ def version_of(loaded):
 
 
 def checked(path):
-    """The shared object at this path, known to be of this package's version."""
+    """The shared object at this path, known to have all calls and to be of this package's version."""
     if not os.path.exists(path):
-        raise NoLibrary(f"the shared object {path} is not there: {HOW}")
+        raise NoLibrary(f"the shared object {path} is not there")
     try:
         version = version_of(ctypes.CDLL(os.path.abspath(path)))
+        if version != VERSION:
+            raise NoLibrary(f"the shared object {path} is of version {version}, and this package is for version {VERSION}")
+        return declared(path)
     except (OSError, AttributeError) as error:
-        raise NoLibrary(f"{path} is no shared object of Vellumrill ({error}): {HOW}") from None
-    if version != VERSION:
-        raise NoLibrary(f"the shared object {path} is of version {version}, and this package is for version {VERSION}: {HOW} anew")
-    return declared(path)
+        raise NoLibrary(f"{path} is no shared object of Vellumrill ({error})") from None
 
 
 @cache
@@ -119,4 +117,9 @@ def library():
     """The shared object, loaded once."""
     if make_ready:
         make_ready()
-    return checked(os.environ.get(OTHER_PLACE) or SHARED_OBJECT)
+    named = os.environ.get(OTHER_PLACE)
+    try:
+        return checked(named or SHARED_OBJECT)
+    except NoLibrary as error:
+        hint = f"the variable {OTHER_PLACE} names it" if named else "`tools/sharedlib`, at the top of Vellumrill's repository, makes it"
+        raise NoLibrary(f"{error}: {hint}") from None

@@ -68,13 +68,13 @@ def check_file(file: Bytes) -> None:
 
 
 def check_train(file: Bytes, k: int) -> None:
-    """Checks a file and a train number: a refusal is by the file's rules and 10."""
+    """Checks a file and a train number, counted from 0: a refusal is by the file's rules and 10."""
     accepted(binding.library().vr_check_train(*lent_file(file), whole(k, "k")))
 
 
 def train_record(file: Bytes, k: int) -> RecordPlace:
-    """Where the record of train k stands, from its class to its last dwell, or to its last rate if it has no stops. A refusal is by the
-    file's rules and 10."""
+    """Where the record of train k, counted from 0, stands: from its class to its last dwell, or to its last rate if it has no stops. A
+    refusal is by the file's rules and 10."""
     answer = binding.library().vr_train_record(*lent_file(file), whole(k, "k"))
     accepted(answer.number)
     return RecordPlace(answer.start, answer.length)
@@ -95,15 +95,15 @@ def lent_for_run(file: Bytes, k: int):
 
 
 def run(file: Bytes, k: int) -> Run:
-    """The run of train k: its squared speeds and its arrivals. No permitted row of speeds reaches a point before these. A refusal is by
-    the file's rules and 10."""
+    """The run of train k, counted from 0: at each point its squared speed, in squares of hundredths of a km/h, and its arrival. No
+    permitted row of speeds reaches a point before these. A refusal is by the file's rules and 10."""
     arguments, speeds, times = lent_for_run(file, k)
     accepted(binding.library().vr_run(*arguments))
     return Run(list(speeds), list(times))
 
 
 def hold(file: Bytes, k: int) -> Held:
-    """The block holds of train k, and its run as the run call gives it. A refusal is by the file's rules and 10."""
+    """The block holds of train k, counted from 0, and its run as the run call gives it. A refusal is by the file's rules and 10."""
     arguments, speeds, times = lent_for_run(file, k)
     answer = binding.library().vr_hold(*arguments)
     accepted(answer.number)
@@ -112,8 +112,9 @@ def hold(file: Bytes, k: int) -> Held:
 
 
 def diagram(file: Bytes, k: int) -> list[DiagramPoint]:
-    """The speed-distance diagram of train k, a record for each point: three doubles, which turned back are the run's own figures, and
-    the dot, full exactly if the squared speed is the square of the speed beside it. A refusal is by the file's rules and 10."""
+    """The speed-distance diagram of train k, counted from 0, a record for each point: the position in m, the speed in hundredths of a
+    km/h and the arrival as doubles, which turned back are the run's own figures, and the dot, full exactly if the squared speed is the
+    square of the speed beside it. A refusal is by the file's rules and 10."""
     length = struct.calcsize(POINT) * sizes(file).points
     lent = (c_uint8 * length)()
     answer = binding.library().vr_diagram(*lent_file(file), whole(k, "k"), lent, length)
@@ -161,10 +162,11 @@ def period(sheet: Sheet) -> Period:
 def path(hold: Hold, starts: Sequence[int], begins: Sequence[int], ends: Sequence[int], low: int, high: int) -> Path:
     """A path for one more train between those already placed.
 
-    `starts` has the start of each placed train, in running order. `begins` and `ends` have a row for each of them, one after the other,
-    with as many entries as the new hold has blocks. The answer is the least start from `low` to `high`, both included, that has a place
-    in the order, and how many trains are before that place: in every block the new hold comes after all trains before it and before all
-    others. A refusal is by 12, 14, 16 and 17; by 17 if and only if no start in the window will do."""
+    `starts` has the start of each placed train, in running order. `begins` and `ends` are flat lists of numbers: the beginnings, and the
+    ends, of the first placed train's holds, then those of the second, and so on, for each train as many as the new hold has blocks. The
+    answer is the least start from `low` to `high`, both included, that has a place in the order, and how many trains are before that
+    place: in every block the new hold comes after all trains before it and before all others. A refusal is by 12, 14, 16 and 17; by 17 if
+    and only if no start in the window will do."""
     rows = [*lent_numbers(starts, "starts"), *lent_numbers(begins, "begins"), *lent_numbers(ends, "ends")]
     answer = binding.library().vr_path(lent_hold(hold), *rows, whole(low, "low"), whole(high, "high"))
     accepted(answer.number)

@@ -2,13 +2,19 @@
 
 import os
 
-from . import inputs, linetext
+from . import inputs, linetext, refusals
 from .messages import Failure
 
 
-def read_file(path: str | os.PathLike[str]) -> bytes:
-    """The bytes of a line file, or of the one that a line text describes, whose name ends in .txt. What cannot be read raises Failure."""
-    return inputs.whole(os.fspath(path)).data
+def read_file(path: str | bytes | os.PathLike[str]) -> bytes:
+    """The bytes of a line file, or of the one that a line text describes, whose name ends in .txt; - is standard input. What cannot be read
+    raises Failure."""
+    return inputs.whole(os.fsdecode(path)).data
+
+
+def explanation(file: bytes, number: int) -> str:
+    """Why a file is refused by this number, in words: which entry of which train breaks the rule."""
+    return refusals.explanation(number, file)
 
 
 def pack_text(text: str) -> bytes:

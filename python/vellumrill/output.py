@@ -1,5 +1,6 @@
 """Writes what a command answers, whole or with a failure: to standard output, or to a file."""
 
+import errno
 import os
 import tempfile
 
@@ -50,6 +51,18 @@ def replace_file(path, data):
         raise
     finally:
         os.close(place)
+
+
+def need_place_for(name):
+    """Fails where a file of this name could not be written: before the work, not after it."""
+    path = os.path.realpath(name)
+    try:
+        if os.path.isdir(path):
+            raise IsADirectoryError(errno.EISDIR, os.strerror(errno.EISDIR))
+        if os.path.isfile(path) or not os.path.exists(path):
+            tempfile.TemporaryFile(dir=os.path.dirname(path)).close()
+    except OSError as error:
+        raise Failure(f"{name} was not written: {error.strerror}") from None
 
 
 def write_device(path, data):

@@ -12,7 +12,7 @@ def add_file(parser):
 
 
 def add_files(parser):
-    parser.add_argument("files", metavar="FILE", nargs="+", help="a line file, or a line text whose name ends in .txt")
+    parser.add_argument("files", metavar="FILE", nargs="+", help="a line file, or a line text whose name ends in .txt; - is standard input")
 
 
 def print_lines(lines):

@@ -14,7 +14,7 @@ from typing import NamedTuple
 
 from .. import binding, calls, inputs, linetext, refusals
 from ..messages import Failure
-from ..output import write_file
+from ..output import need_place_for, write_file
 from ..readable import counted
 from ..rules import RULES, Refusal
 from ..running import FAILED, REFUSED, is_terminal
@@ -26,7 +26,8 @@ NOTES = """\
 The files are those in DIR itself, in the order of their names, without hidden
 ones; a line text has a name that ends in .txt, every other file is taken as a
 line file. Times are in microseconds. A file that is refused or cannot be read
-has a row that says why, and stops nothing.
+has a row that says why, and stops nothing. OUT is in UTF-8, but names of files
+keep their own bytes.
 
 exit status: 0 all files are accepted; 1 some are refused; 2 some cannot be
 read, or nothing was written.
@@ -84,15 +85,15 @@ def is_taken(entry):
 
 
 def files_in(folder, out):
-    """The files of the folder but the one that is to be written."""
+    """The files of the folder, and how many entries are left out. The file that is to be written is neither."""
     try:
-        entries = sorted(entry.path for entry in os.scandir(folder) if is_taken(entry))
+        entries = [entry for entry in os.scandir(folder) if os.path.realpath(entry.path) != os.path.realpath(out)]
     except OSError as error:
         raise Failure(f"{folder} cannot be read: {error.strerror}") from None
-    found = [path for path in entries if os.path.realpath(path) != os.path.realpath(out)]
+    found = sorted(entry.path for entry in entries if is_taken(entry))
     if not found:
-        raise Failure(f"{folder} has no files")
-    return found
+        raise Failure(f"{folder} has no files; folders in it are not entered")
+    return found, len(entries) - len(found)
 
 
 def leave_interrupts():
@@ -145,8 +146,25 @@ class Progress:
         elif done * 10 // self.files > (done - 1) * 10 // self.files:
             self.say(self.line())
 
+    def interrupted(self):
+        if self.on_terminal:
+            os.write(2, b"\n")
+        self.say("interrupted, so nothing is written")
 
-def summary(found, out, seconds):
+
+def all_results(paths, progress):
+    found = []
+    try:
+        for result in results(paths):
+            found.append(result)
+            progress.count(result.verdict)
+    except KeyboardInterrupt:
+        progress.interrupted()
+        raise
+    return found
+
+
+def summary(found, left_out, out, seconds):
     verdicts = Counter(result.verdict for result in found)
     numbers = Counter(result.number for result in found if result.number)
     trains = sum(len(result.rows) for result in found if result.verdict == ACCEPTED)
@@ -157,6 +175,8 @@ def summary(found, out, seconds):
         if numbers[number]:
             yield f"    {numbers[number]} by rule {number}: {RULES[number]}"
     yield f"  failed    {counted(verdicts[FAILED_FILE], 'file')} that could not be read"
+    if left_out:
+        yield f"  left out  {left_out} that are folders, hidden or no plain files"
 
 
 def status_of(found):
@@ -167,12 +187,10 @@ def status_of(found):
 def run(asked, say):
     if Path(asked.csv).suffix != ".csv":
         raise Failure(f"{asked.csv} is no name of a CSV file: it has to end in .csv")
-    began, paths = time.monotonic(), files_in(asked.folder, asked.csv)
+    began, (paths, left_out) = time.monotonic(), files_in(asked.folder, asked.csv)
+    need_place_for(asked.csv)
     binding.library()                   # made and loaded once, before the workers are there
-    progress, found = Progress(len(paths), say), []
-    for result in results(paths):
-        found.append(result)
-        progress.count(result.verdict)
+    found = all_results(paths, Progress(len(paths), say))
     write_file(asked.csv, as_csv(HEADER, (row for result in found for row in result.rows)))
-    print_lines(summary(found, asked.csv, time.monotonic() - began))
+    print_lines(summary(found, left_out, asked.csv, time.monotonic() - began))
     return status_of(found)

@@ -7,7 +7,7 @@ from pathlib import Path
 from ..figures import figures_of
 from ..inputs import STANDARD_INPUT
 from ..messages import Failure
-from ..output import write_file
+from ..output import need_place_for, write_file
 from ..readable import clock, kilometres, kmh
 from ..tables import aligned, as_csv
 from .asked import add_file, for_file, print_lines
@@ -19,8 +19,10 @@ the sheet, start plus arrival. A dot is full where the speed is exact, and open
 where it was rounded down to hundredths of a km/h.
 
 With --csv three files are written into DIR, which is made if it is not there:
-NAME-trains.csv, NAME-points.csv and NAME-holds.csv, where NAME is that of FILE.
-Each has a header line; times in them are in microseconds.
+NAME-trains.csv, NAME-points.csv and NAME-holds.csv, where NAME is that of FILE
+without its ending, or `line` for standard input. Old ones are replaced. Each has
+a header line; times in them are in microseconds, squared speeds in squares of
+hundredths of a km/h.
 """
 
 TRAINS = ("train", "class", "length_m", "start_us", "run_us", "block")
@@ -90,15 +92,27 @@ def print_figures(figures, number):
 
 # ------------------------------------------------------------ files for programs
 
+def make_folder(name):
+    try:
+        os.makedirs(name, exist_ok=True)
+    except FileExistsError:
+        raise Failure(f"{name} is a file, not a folder") from None
+    except OSError as error:
+        raise Failure(f"the folder {name!r} cannot be made: {error.strerror}") from None
+
+
 def write_files(figures, number, folder, name):
     trains = chosen(figures, number)
     tables = {"trains": (TRAINS, map(train_row, trains)),
               "points": (POINTS, (row for train in trains for row in point_rows(train))),
               "holds": (HOLDS, (row for train in trains for row in hold_rows(figures.line, train)))}
     stem = "line" if name == STANDARD_INPUT else Path(name).stem
-    os.makedirs(folder, exist_ok=True)
+    make_folder(folder)
+    places = {kind: os.path.join(folder, f"{stem}-{kind}.csv") for kind in tables}
+    for place in places.values():
+        need_place_for(place)
     for kind, (header, rows) in tables.items():
-        write_file(os.path.join(folder, f"{stem}-{kind}.csv"), as_csv(header, rows))
+        write_file(places[kind], as_csv(header, rows))
 
 
 def run(asked, say):

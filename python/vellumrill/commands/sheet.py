@@ -12,7 +12,8 @@ HELP = "the starts, running times and blocks named"
 NOTES = """\
 Times are printed as h:mm:ss and in microseconds. With --plain the sheet is
 printed as the sheet program prints it: a line `train start run block`, then a
-line for each train, with times in microseconds alone.
+line for each train, with times in microseconds alone. The program's bound of
+16,384 bytes does not count here: a longer file is refused by the rule it breaks.
 """
 HEADER = ("train", "class", "start", "µs", "run", "µs", "block")
 

@@ -1,6 +1,7 @@
 """What the pictures have in common: an empty one, its axes of distance and time, and how it is saved."""
 
 import io
+import logging
 import sys
 import warnings
 
@@ -17,9 +18,11 @@ RED = "#c62828"
 GREY = "#777777"
 TICKS = (0.1, 0.25, 0.5, 1, 2, 5, 10, 15, 30, 60, 120, 240, 480)       # minutes between two ticks of an axis of time
 MOST_TICKS = 14
+LONGEST_NAME = 70                       # letters of a title
 
 
 def need_matplotlib():
+    logging.getLogger("matplotlib").setLevel(logging.ERROR)     # it warns where it finds no folder for its settings
     try:
         import matplotlib.figure  # noqa: F401
     except ImportError as error:
@@ -72,19 +75,33 @@ def show_legend(axes, entries):
     axes.legend(handles=entries, loc="upper center", bbox_to_anchor=(0.5, -below), ncols=len(entries), fontsize=8, frameon=False)
 
 
+def length_of(line):
+    """The line's length in km."""
+    return (line.sizes["points"] - 1) * line.sizes["step"] / 1000
+
+
+def apart(entries, distance):
+    """Those of the entries, each with its place in front, that have this distance from the one taken before."""
+    last = None
+    for entry in entries:
+        if last is None or entry[0] >= last + distance:
+            last = entry[0]
+            yield entry
+
+
 def show_distance(axes, line):
-    axes.set_xlim(0, (line.sizes["points"] - 1) * line.sizes["step"] / 1000)
+    axes.set_xlim(0, length_of(line))
     axes.set_xlabel("distance in km")
 
 
 def show_blocks(axes, line):
-    """The boundaries of the blocks as lines, and the numbers of the blocks above."""
+    """The boundaries of the blocks as lines, and the numbers of the blocks above, as far as they find room."""
     step = line.sizes["step"]
     for place in sorted({point for block in line.pairs["block"] for point in block}):
         axes.axvline(place * step / 1000, color="#d0d0d0", linewidth=0.7, zorder=0.5)
     above = axes.secondary_xaxis("top")
-    above.set_xticks([(start + end) * step / 2000 for start, end in line.pairs["block"]],
-                     [str(number) for number in range(1, len(line.pairs["block"]) + 1)], fontsize=7)
+    middles = [((start + end) * step / 2000, str(number)) for number, (start, end) in enumerate(line.pairs["block"], 1)]
+    above.set_xticks(*zip(*apart(middles, 0.011 * length_of(line))), fontsize=7)
     above.tick_params(length=0, pad=1)
     above.set_xlabel("block", fontsize=8)
 
@@ -92,7 +109,8 @@ def show_blocks(axes, line):
 def show_title(axes, name, words):
     """The name of the file and what is shown of it. Letters that cannot be printed are shown as a question mark."""
     plain = "".join(letter if letter.isprintable() else "?" for letter in name)
-    axes.set_title(f"{plain}: {words}", parse_math=False)
+    cut = plain if len(plain) <= LONGEST_NAME else plain[:LONGEST_NAME] + ".."
+    axes.set_title(f"{cut}: {words}", parse_math=False)
 
 
 def save(figure, name, kind):

@@ -18,10 +18,14 @@ def draw_stairway(axes, line, train, colour):
 
 
 def draw_path(axes, train, colour):
+    """The path of the head, the train's number before it, and behind it the block that fixes the start."""
     places, times = zip(*((place, minutes(train.clock_of(time))) for place, time in passages(train)))
     axes.plot(places, times, color=colour, linewidth=1.3, gid=f"path-{train.number}")
     axes.annotate(f"{train.number}", (places[0], times[0]), xytext=(-4, 0), textcoords="offset points", ha="right", va="center",
                   fontsize=8, color=colour, fontweight="bold", annotation_clip=False)
+    if train.block:
+        axes.annotate(f"{train.number}: block {train.block}", (places[-1], times[-1]), xytext=(4, 0), textcoords="offset points",
+                      va="center", fontsize=7, color=RED, annotation_clip=False)
 
 
 def draw_binding(axes, line, train):
@@ -30,8 +34,6 @@ def draw_binding(axes, line, train):
         start, end = (point * line.sizes["step"] / 1000 for point in line.pairs["block"][train.block - 1])
         time = minutes(train.clock_of(train.hold.begins[train.block - 1]))
         axes.plot([start, end], [time, time], color=RED, linewidth=3, solid_capstyle="butt", gid=f"binding-{train.number}", zorder=4)
-        axes.annotate(f"{train.number}: block {train.block}", (end, time), xytext=(3, 0), textcoords="offset points", va="center",
-                      fontsize=7, color=RED, zorder=5, bbox={"facecolor": "white", "alpha": 0.75, "edgecolor": "none", "pad": 0.6})
 
 
 def legend_entries(figures):
@@ -40,7 +42,8 @@ def legend_entries(figures):
     classes = sorted({train.class_word for train in figures.trains}, key=list(COLOURS).index)
     entries = [Line2D([], [], color=COLOURS[word], linewidth=1.3, label=word) for word in classes]
     entries.append(Patch(facecolor=GREY, alpha=PALE, edgecolor=GREY, label="hold of a block"))
-    entries.append(Line2D([], [], color=RED, linewidth=3, label="block that fixes the start"))
+    if any(train.block for train in figures.trains):
+        entries.append(Line2D([], [], color=RED, linewidth=3, label="block that fixes the start"))
     return entries
 
 

@@ -1,7 +1,8 @@
 """The speed-distance diagram of a train, from the doubles of the diagram call."""
 
 from ..readable import clock
-from .drawing import COLOURS, GREY, RED, empty, minutes, passages, show_blocks, show_distance, show_legend, show_time, show_title
+from .drawing import COLOURS, GREY, RED, apart, empty, length_of, minutes, passages
+from .drawing import show_blocks, show_distance, show_legend, show_time, show_title
 
 
 def limit_steps(line):
@@ -24,14 +25,16 @@ def draw_run(axes, train, colour):
     size = max(1.5, min(5.0, 900 / len(train.points)))
     for full, face, words in ((True, colour, "speed, exact"), (False, "white", "speed, rounded down")):
         dots = [(x, y) for x, y, point in zip(distances, speeds, train.points) if point.full == full]
-        axes.plot([x for x, _ in dots], [y for _, y in dots], linestyle="none", marker="o", markersize=size, markerfacecolor=face,
-                  markeredgecolor=colour, markeredgewidth=0.6, label=words, gid="full-dots" if full else "open-dots", clip_on=False)
+        if dots:
+            axes.plot(*zip(*dots), linestyle="none", marker="o", markersize=size, markerfacecolor=face, markeredgecolor=colour,
+                      markeredgewidth=0.6, label=words, gid="full-dots" if full else "open-dots", clip_on=False)
 
 
 def draw_stops(axes, line, train):
-    for number, (point, dwell) in enumerate(train.given.pairs["stop"], 1):
-        place = point * line.sizes["step"] / 1000
+    stops = [(point * line.sizes["step"] / 1000, dwell) for point, dwell in train.given.pairs["stop"]]
+    for number, (place, _) in enumerate(stops, 1):
         axes.axvline(place, color=RED, linewidth=0.9, alpha=0.7, gid=f"stop-{number}", label="stop" if number == 1 else None)
+    for place, dwell in apart(stops, 0.035 * length_of(line)):
         axes.annotate(f"{dwell} s" if dwell else "stop", (place, 1), xycoords=("data", "axes fraction"), xytext=(3, -9),
                       textcoords="offset points", fontsize=7, color=RED)
 
