@@ -4,6 +4,7 @@ import io
 import logging
 import sys
 import warnings
+from itertools import chain, count
 
 from ..messages import Failure
 from ..output import write_file
@@ -17,6 +18,7 @@ COLOURS = {"intercity": "#1f5fa8", "stopping": "#2b8a4b", "goods": "#a2591c"}
 RED = "#c62828"
 GREY = "#777777"
 TICKS = (0.1, 0.25, 0.5, 1, 2, 5, 10, 15, 30, 60, 120, 240, 480)       # minutes between two ticks of an axis of time
+DAY = 1440                              # the same for longer axes: a day, two, four ..
 MOST_TICKS = 14
 LONGEST_NAME = 70                       # letters of a title
 
@@ -62,7 +64,7 @@ def tick(value, with_seconds):
 def show_time(axes, words, last, most_ticks=MOST_TICKS):
     """The axis of time, which ends with this minute."""
     from matplotlib.ticker import MultipleLocator
-    between = next((between for between in TICKS if last <= between * most_ticks), TICKS[-1])
+    between = next(between for between in chain(TICKS, (DAY << n for n in count())) if last <= between * most_ticks)
     with_seconds = between < 1
     axes.set_ylabel(f"{words}, {'h:mm:ss' if with_seconds else 'h:mm'}")
     axes.yaxis.set_major_locator(MultipleLocator(between))
