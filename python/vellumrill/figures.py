@@ -20,11 +20,6 @@ class TrainFigures(NamedTuple):
         return linetext.class_word(self.given.train_class)
 
     @property
-    def arrivals(self):
-        """From the train's start on."""
-        return [int(point.arrival) for point in self.points]
-
-    @property
     def run(self):
         """The running time."""
         return int(self.points[-1].arrival)
