@@ -56,3 +56,14 @@ def bring_shared_object_up_to_date(say):
     with only_builder(say):
         if is_old():
             link()
+
+
+def replace_what_is_not_sound(say):
+    """Links the shared object anew where it cannot be loaded or is of another version, whatever its date."""
+    try:
+        checked(SHARED_OBJECT)
+    except NoLibrary as error:
+        say(f"{error}, so it is linked anew")
+        bring_up_to_date(LIBRARY, say)
+        with only_builder(say):
+            link()

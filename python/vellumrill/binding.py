@@ -83,7 +83,7 @@ CALLS = {
 
 
 class NoLibrary(Failure):
-    """The shared object is missing, or of another version."""
+    """The shared object is missing, not whole, or of another version."""
 
 
 def declared(path):

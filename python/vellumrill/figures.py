@@ -34,9 +34,6 @@ class LineFigures(NamedTuple):
     trains: list[TrainFigures]
     sheet: Sheet                        # with all trains on it
 
-    def train(self, number):
-        return self.trains[number - 1]
-
 
 def train_figures(file, line, sheet, k):
     """The figures of train k, which is added to the sheet."""

@@ -42,7 +42,7 @@ def chosen(figures, number):
         return figures.trains
     if not 1 <= number <= len(figures.trains):
         raise Failure(f"there is no train {number}: the file has trains 1 to {len(figures.trains)}")
-    return [figures.train(number)]
+    return [figures.trains[number - 1]]
 
 
 # ------------------------------------------------------------ rows

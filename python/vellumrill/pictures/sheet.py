@@ -6,7 +6,7 @@ from .drawing import COLOURS, GREY, RED, empty, minutes, passages, show_blocks, 
 PALE = 0.28                             # how much colour a box has
 
 
-def draw_stairway(axes, line, train, colour):
+def draw_holds(axes, line, train, colour):
     """A box for each block: its width the block, its height the time for which the train holds it."""
     from matplotlib.colors import to_rgba
     from matplotlib.patches import Rectangle
@@ -55,7 +55,7 @@ def draw_sheet(figures, name):
     show_distance(axes, line)
     for train in trains:
         colour = COLOURS[train.class_word]
-        draw_stairway(axes, line, train, colour)
+        draw_holds(axes, line, train, colour)
         draw_path(axes, train, colour)
         draw_binding(axes, line, train)
     last = minutes(max(figures.sheet.free[:figures.sheet.blocks] + [train.clock_of(train.run) for train in trains]))
