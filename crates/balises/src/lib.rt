@@ -1,4 +1,6 @@
 // Rule 15, of the balises of a decoded line, whatever it holds.
+#![tactic(auto)]
+
 ghost use Rattle.std.specs.Prelude.{◌≡◌, ◌-◌, ◌*◌};
 ghost use Rattle.rules.specs.Refusal.{balises_rule};
 ghost use Rattle.values.specs.Values.{as_line};

@@ -1,5 +1,7 @@
 // The cap speed of a train under way: the lowest of the limits that its grown length covers and its last band's top. The head, the tail and the
 // balises only move forward along the line. Of each array the first entries are in use, up to their count and no more than 64.
+#![tactic(auto)]
+
 mod numbers;
 mod places;
 

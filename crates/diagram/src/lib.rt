@@ -1,4 +1,6 @@
 // The speed-distance diagram of a train: the record of each point as three doubles and its dot, written into lent bytes.
+#![tactic(auto)]
+
 mod points;
 
 ghost use Rattle.std.specs.Prelude.{◌≡◌, ◌*◌, ◌≤◌, length};

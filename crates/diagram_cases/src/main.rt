@@ -1,6 +1,8 @@
 // Reads files from standard input, and prints what the diagram call answers and leaves. The input is packed by tests/diagram_cases.py: how
 // many cases follow, and for each the file's length, the file, the train number and how many bytes are lent. Each number has 8 bytes, low
 // byte first.
+#![tactic(auto)]
+
 const MOST_CASES: u64 = 100000;
 
 // What the lent bytes hold before a call. No dot, the last byte of a point, has this value.

@@ -1,4 +1,6 @@
 // The forward sweep of a run: caps and traction steps in one pass over the points, with no row of caps.
+#![tactic(auto)]
+
 mod bands;
 mod numbers;
 mod stretch;

@@ -1,6 +1,8 @@
 // Reads files and questions from standard input, and prints what the forward sweep up to a point answers and what it leaves in the buffer lent
 // to it. The input is packed by tests/forward_cases.py: how many questions follow the file (8 bytes, low byte first), the file's length
 // (8 bytes), the file, which has one train, then the questions: the point and the length of the buffer (8 bytes each).
+#![tactic(auto)]
+
 const MOST_FILES: u64 = 100000;
 
 // What the buffer holds before a call: greater than any squared speed.

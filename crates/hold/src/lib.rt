@@ -1,4 +1,6 @@
 // The hold of a train: for each block when its hold begins and ends.
+#![tactic(auto)]
+
 mod approach;
 
 ghost use Rattle.std.specs.Prelude.{◌≡◌, ℕ, ◌+◌, ◌*◌, ◌<◌, ◌≤◌, length};

@@ -1,4 +1,6 @@
 // The hold record of a train: what the hold call gives, and what is added to a sheet.
+#![tactic(auto)]
+
 #[repr(C)]
 #[derive(Drop)]
 pub struct HoldRecord {

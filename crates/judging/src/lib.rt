@@ -1,4 +1,6 @@
 // Rules 3 to 9 and 15 of a decoded line and train, whatever they hold.
+#![tactic(auto)]
+
 mod line_rules;
 mod numbers;
 mod on_line;

@@ -1,4 +1,6 @@
 // The line file: checking it, handing out a train's record, and opening it for callers that go on to use its line and trains.
+#![tactic(auto)]
+
 mod find;
 mod judge;
 mod opened;

@@ -1,5 +1,7 @@
 // Reads files and train numbers from standard input, and prints what the calls answer. The input is packed by tests/line_cases.py: how
 // many train numbers are asked (8 bytes, low byte first), the file's length (8 bytes), the file, then the train numbers (8 bytes each).
+#![tactic(auto)]
+
 const MOST_FILES: u64 = 100000;
 
 fn wide(byte: u8) -> u64 {

@@ -1,3 +1,4 @@
 // The marked cases of document 01, what some roots leave, the sample's diagram, paths between two trains and the block named where several
 // fix a start, proved over the rules, in proofs/.
 // This crate has no code.
+#![tactic(auto)]

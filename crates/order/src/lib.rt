@@ -1,4 +1,6 @@
 // The order of two trains in every block.
+#![tactic(auto)]
+
 ghost use Rattle.std.specs.Prelude.{◌≡◌, ◌+◌, leb};
 ghost use Rattle.order.specs.Clear.{clear_of};
 

@@ -1,4 +1,6 @@
 // A path for one more train among those already placed.
+#![tactic(auto)]
+
 mod search;
 
 ghost use Rattle.std.specs.Prelude.{◌≡◌};

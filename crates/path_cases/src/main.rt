@@ -1,5 +1,7 @@
 // Reads questions for a path from standard input, and prints what the path call answers. The input is numbers of 8 bytes, low byte first
 // (tests/path_cases.py): each question is 1, the hold record, the window, how many entries each of the three slices has, and these.
+#![tactic(auto)]
+
 ghost use Rattle.std.specs.Prelude.{◌≤◌};
 
 use holds::HoldRecord;

@@ -1,4 +1,6 @@
 // Rules 12, 14 and 16, of a new hold record, placed rows and a window of starts, all with any contents.
+#![tactic(auto)]
+
 mod rows;
 
 ghost use Rattle.std.specs.Prelude.{◌≡◌};

@@ -1,4 +1,6 @@
 // The numbers of a line file, read from its bytes, whatever the bytes are. A byte past the end counts as 0.
+#![tactic(auto)]
+
 mod decode;
 mod length;
 mod places;

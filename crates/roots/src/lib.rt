@@ -1,4 +1,6 @@
 // The root: the only step from a squared speed to a speed, and the dot that marks a whole one.
+#![tactic(auto)]
+
 ghost use Rattle.std.specs.Prelude.{◌≡◌, ◌≤◌, ◌==◌};
 ghost use Rattle.rules.specs.Diagram.{dot as dotOf};
 ghost use Rattle.rules.specs.Time.{root as rootOf};

@@ -1,4 +1,6 @@
 // The run of a train: its squared speeds and its arrivals.
+#![tactic(auto)]
+
 mod backward;
 mod kept;
 mod times;

@@ -1,6 +1,8 @@
 // Reads files and questions from standard input, and prints what the run call and the hold call answer and what they leave in the buffers
 // lent to them. The input is packed by tests/run_cases.py: how many questions follow the file (8 bytes, low byte first), the file's length
 // (8 bytes), the file, then the questions: the train number and the lengths of the buffers for speeds and times (8 bytes each).
+#![tactic(auto)]
+
 use holds::HoldRecord;
 
 const MOST_FILES: u64 = 100000;

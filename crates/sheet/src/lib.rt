@@ -1,4 +1,6 @@
 // The sheet of starts: opening a sheet, adding a hold record to it, the headway of two trains, and the period of a sheet.
+#![tactic(auto)]
+
 mod after;
 mod first;
 mod pattern;

@@ -1,4 +1,6 @@
 // The answers of the sheet's calls in numbers alone, as the calls for C give them. Number 0 means accepted.
+#![tactic(auto)]
+
 ghost use Rattle.std.specs.Prelude.{◌≡◌};
 ghost use Rattle.rules.specs.Calls.{opened, added, headway};
 ghost use Rattle.rules.specs.Demand.{ThirdDemand};

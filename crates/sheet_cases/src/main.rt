@@ -1,5 +1,7 @@
 // Reads calls on a sheet from standard input, and prints what each answers and leaves. The input is numbers of 8 bytes, low byte
 // first: each call is its kind and then its arguments (tests/sheet_cases.py).
+#![tactic(auto)]
+
 ghost use Rattle.std.specs.Prelude.{◌≡◌};
 ghost use Rattle.rules.specs.Calls.{added};
 ghost use Rattle.holds.specs.Values.{as_hold};

@@ -1,4 +1,6 @@
 // Rules 12 to 14, of a sheet and a hold record with any contents: tests that pass where a rule is kept, and the number of refusal.
+#![tactic(auto)]
+
 ghost use Rattle.std.specs.Prelude.{◌≡◌, ◌≤◌, leb, ltb};
 ghost use Rattle.rules.specs.Count.{entry, every};
 ghost use Rattle.rules.specs.Refusal.{refusal, count_rule, sheet_rule, hold_rule, adding_rules};

@@ -1,5 +1,7 @@
 // The stops of a train under way, gone through once in the order of their points. Of the arrays the first `count` entries are in use, but
 // no more than 64.
+#![tactic(auto)]
+
 ghost use Rattle.std.specs.Prelude.{◌≡◌};
 ghost use Rattle.stops.specs.Stops.{used, stop_from, stop_number, stop_ahead, dwell_here};
 

@@ -1,4 +1,6 @@
 // A whole file in one call: the columns of its sheet.
+#![tactic(auto)]
+
 mod train;
 
 ghost use Rattle.std.specs.Prelude.{◌≡◌, ◌≤◌, min, length, take};

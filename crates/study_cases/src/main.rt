@@ -1,6 +1,8 @@
 // Reads files from standard input, and prints what the study calls answer and leave. The input is packed by tests/study_cases.py: how many
 // cases follow, and for each the file's length, the file, the call asked (0 `study`, 1 `program_text`) and how many bytes are lent to it.
 // Each number has 8 bytes, low byte first.
+#![tactic(auto)]
+
 const MOST_CASES: u64 = 100000;
 
 // What the lent bytes hold before a call: no byte of a text.

@@ -1,4 +1,6 @@
 // The sheet of a whole file as text, and what the sheet program prints.
+#![tactic(auto)]
+
 ghost use Rattle.std.specs.Prelude.{◌≡◌, ◌≤◌, length};
 ghost use Rattle.rules.specs.Calls.{lent_after};
 ghost use Rattle.rules.specs.Count.{padded};

@@ -1,4 +1,6 @@
 // The sheet program's text in lent bytes: the sheet of some trains, or a refusal. A text that does not fit is not written.
+#![tactic(auto)]
+
 mod entries;
 mod lengths;
 mod lines;

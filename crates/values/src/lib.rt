@@ -1,4 +1,6 @@
 // The line and a train as values, what they give by themselves, and the quantities of a run.
+#![tactic(auto)]
+
 mod class;
 mod decoded;
 mod motion;

@@ -1,4 +1,6 @@
 // The calls for C and Rust. A slice crosses as a pointer and its length. Number 0 means accepted.
+#![tactic(auto)]
+
 ghost use Rattle.std.specs.Prelude.{◌≡◌, length, take};
 ghost use Rattle.rules.specs.Calls.{lent_after, file_refusal, train_refusal, record_place, run_refusal, speeds_after, times_after, held, opened, added};
 ghost use Rattle.rules.specs.Calls.{headway};

@@ -1,4 +1,6 @@
 // How long a train waits for the blocks, and the block named, by the arrays of a sheet and of a hold record.
+#![tactic(auto)]
+
 mod block;
 mod wait;
 

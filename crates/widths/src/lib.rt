@@ -1,4 +1,6 @@
 // A file's 16-bit numbers in the wider types that places, sums and products need, a number back in 32 bits, and the lesser of two sizes.
+#![tactic(auto)]
+
 ghost use Rattle.std.specs.Prelude.{◌≡◌, ◌<◌, min};
 
 pub fn size(x: u16) -> usize
