@@ -1,14 +1,10 @@
 -- `clear_of`: at the loop's test the first b blocks are clear.
 use Prim.Native.Nat.{◌+◌, ◌≤◌, ◌-◌, min}
 use mathlib.Core.Bool.{true}
-use mathlib.Core.Path.{◌≡◌, sym}
-use native.Mathlib.Omega.{arith}
+use mathlib.Core.Path.{◌≡◌}
 use lib.Dec.{leb}
 use lib.ListN.{length}
-use borrow.Author.Rules.{rules}
 use Rattle.rules.specs.Count.{entry, every}
-use Rattle.rules.proofs.Loops.{every-none, every_more, every-broken, every_done, passed, failed}
-use Rattle.order.specs.Clear.{clear_of}
 use Rattle.order.proofs.clear_of.Given as goal
 
 abbrev pub invariant-loop-b : goal.invariant-loop-b

@@ -1,17 +1,17 @@
--- `hold_kept`: the three parts of rule 14 in turn. Assumes nothing.
+-- `hold_kept`: the three parts of rule 14 in turn.
 use Prim.Native.Nat.{ℕ, ◌^◌}
 use mathlib.Core.Bool.{Bool, true, false}
 use mathlib.Core.Path.{◌≡◌}
 use lib.Dec.{leb, ltb}
-use borrow.Author.Rules.{rules}
 use borrow.Author.Tests.{eq-eqb, ne_eqb}
 use Rattle.rules.specs.Count.{◌and◌, every}
 use Rattle.rules.specs.Hold.{Hold}
 use Rattle.rules.specs.Refusal.{hold_rule}
 use Rattle.rules.specs.Sheet.{begin, end}
 use Rattle.rules.proofs.Loops.{passed, failed}
-use Rattle.sheet_judging.proofs.hold_kept.Statement.{statement}
-use Rattle.sheet_judging.proofs.hold_kept.Tie as tie
+use mathlib.Core.Path.{ap}
+use mathlib.Core.Bool.{not}
+use Rattle.sheet_judging.proofs.hold_kept.Goals as goal
 
 module _ (n : ℕ) (h : Hold) where
   other_count : (h.blocks ≡ n → ⊥) → false ≡ hold_rule n h
@@ -26,25 +26,11 @@ module _ (n : ℕ) (h : Hold) where
   unfolding hold_rule ◌and◌
   by_ends e f g = rw (eq-eqb h.blocks n e, f) g
 
-returns : tie.Need-returns
-returns c = other_count _ _ c.if1.true
+pub returns-then-count-blocks : goal.returns-then-count-blocks
+returns-then-count-blocks c = other_count _ _ c.if-count-blocks.true
 
-all-ordered-requires : tie.Need-all-ordered-requires
-all-ordered-requires c κs = search rules
+pub returns-then-not-all_ordered : goal.returns-then-not-all_ordered
+returns-then-not-all_ordered c = unordered _ _ c.«if-count-blocks».false (failed c.all_ordered.ensures (ap not c.if-not-all_ordered.true))
 
-returns_2 : tie.Need-returns-2
-returns_2 c =
-    let s = c.before in
-    unordered _ _ s.before.if1.false (failed s.all-ordered.ensures c.if2.true)
-
-all-at-most-requires : tie.Need-all-at-most-requires
-all-at-most-requires c κs = search rules
-
-returns-3 : tie.Need-returns-3
-returns-3 c =
-    let s = c.before.before in
-    by_ends _ _ s.before.if1.false (passed s.all-ordered.ensures c.before.if2.false) c.all-at-most.ensures
-
-pub hold_kept_spec : {M : Type 1} → statement M
-hold_kept_spec =
-    tie.close (tie.spec returns all-ordered-requires returns_2 all-at-most-requires returns-3)
+pub returns : goal.returns
+returns c = by_ends _ _ c.«if-count-blocks».false (passed c.all_ordered.ensures (ap not c.if-not-all_ordered.false)) c.all_at_most.ensures

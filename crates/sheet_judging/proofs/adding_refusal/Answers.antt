@@ -1,8 +1,7 @@
--- `adding_refusal`: the rules in checking order. Assumes nothing.
+-- `adding_refusal`: the rules in checking order.
 use mathlib.Core.Bool.{Bool, true, false, not}
 use mathlib.Core.List.{[], ◌∷◌}
 use mathlib.Core.Path.{◌≡◌, sym, ap, ◌∙◌}
-use borrow.Author.Rules.{rules}
 use borrow.Author.Tests.{eq-eqb, ne_eqb}
 use Rattle.rules.specs.Hold.{Hold}
 use Rattle.rules.specs.Refusal.{rule, refusal, sheet_rule, hold_rule, adding_rules}
@@ -10,8 +9,7 @@ use Rattle.rules.specs.Sheet.{Sheet}
 use Rattle.rules.proofs.Refusal.{refusal-none, head_broken, head_kept}
 use Rattle.rules.proofs.Sheet.{rule_12}
 use Rattle.rules.proofs.Loops.{passed, failed}
-use Rattle.sheet_judging.proofs.adding_refusal.Statement.{statement}
-use Rattle.sheet_judging.proofs.adding_refusal.Tie as tie
+use Rattle.sheet_judging.proofs.adding_refusal.Goals as goal
 
 -- the number of the first broken rule, and 0 past all three; r and q are what the code holds of rules 12 and 14
 module _ (s : Sheet) (h : Hold) {r : Bool} (e : r ≡ sheet_rule s) where
@@ -32,35 +30,17 @@ module _ (s : Sheet) (h : Hold) {r : Bool} (e : r ≡ sheet_rule s) where
       breaks_none : not q ≡ false → 0 ≡ refusal (adding_rules s h)
       breaks_none n = sym (from_14 ∙ head_kept 14 _ _ (passed g n) ∙ refusal-none)
 
-sheet-kept-requires : tie.Need-sheet-kept-requires
-sheet-kept-requires c κs = search rules
+pub returns-then-not-sheet_kept : goal.returns-then-not-sheet_kept
+returns-then-not-sheet_kept c = breaks_12 _ _ c.sheet_kept.ensures (ap not c.if-not-sheet_kept.true)
 
-returns : tie.Need-returns
-returns c = breaks_12 _ _ c.before.sheet-kept.ensures c.if1.true
+pub returns-then-trains-eq-MOST_TRAINS : goal.returns-then-trains-eq-MOST_TRAINS
+returns-then-trains-eq-MOST_TRAINS c = breaks_13 _ _ c.sheet_kept.ensures (ap not c.«if-not-sheet_kept».false) c.if-trains-eq-MOST_TRAINS.true
 
-returns_2 : tie.Need-returns-2
-returns_2 c =
-    let s = c.before in
-    breaks_13 _ _ s.before.sheet-kept.ensures s.if1.false c.if2.true
+pub hold_kept-requires : goal.hold_kept-requires
+hold_kept-requires c = ((rule_12 _).0 (passed c.sheet_kept.ensures (ap not c.«if-not-sheet_kept».false))).blocks-most
 
-hold-kept-requires : tie.Need-hold-kept-requires
-hold-kept-requires c κs =
-    let s = c.before in
-    ((rule_12 _).0 (passed s.before.sheet-kept.ensures s.if1.false)).blocks-most
+pub returns-then-not-hold_kept : goal.returns-then-not-hold_kept
+returns-then-not-hold_kept c = breaks_14 _ _ c.sheet_kept.ensures (ap not c.«if-not-sheet_kept».false) c.«if-trains-eq-MOST_TRAINS».false c.hold_kept.ensures (ap not c.if-not-hold_kept.true)
 
-returns-3 : tie.Need-returns-3
-returns-3 c =
-    let room = c.before.before in
-    let s = room.before in
-    breaks_14 _ _ s.before.sheet-kept.ensures s.if1.false room.if2.false c.before.hold-kept.ensures c.if3.true
-
-returns-4 : tie.Need-returns-4
-returns-4 c =
-    let room = c.before.before in
-    let s = room.before in
-    breaks_none _ _ s.before.sheet-kept.ensures s.if1.false room.if2.false c.before.hold-kept.ensures c.if3.false
-
-pub adding_refusal_spec : {M : Type 1} → statement M
-adding_refusal_spec =
-    tie.close
-    (tie.spec sheet-kept-requires returns returns_2 hold-kept-requires returns-3 returns-4)
+pub returns : goal.returns
+returns c = breaks_none _ _ c.sheet_kept.ensures (ap not c.«if-not-sheet_kept».false) c.«if-trains-eq-MOST_TRAINS».false c.hold_kept.ensures (ap not c.if-not-hold_kept.false)
