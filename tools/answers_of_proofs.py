@@ -49,19 +49,20 @@ def resolve(fn, place, fields, left):
         p = fn.up(p); fs.pop(0)
     if not fs: return ('place', p)
     f = norm(fs[0])
+    if f.endswith('_lem'): f = f[:-4]
     if f in ('args', 'requires', 'pre', 'ranges', 'type_inv', 'well_formed'):
         name = {'pre':'requires','well_formed':'type_inv'}.get(f, f)
-        return ('text', '.'.join(['c', name] + fs[1:]))
+        return ('text', '.'.join(['\x03', name] + fs[1:]))
     # find the label at p or at an ancestor
     def same(a, b): return a == b or a.replace('_','') == b.replace('_','') or a.lower() == b.lower()
     def fin(lab):
         rest = fs[1:]
         if lab.startswith('if-not-') and rest and rest[0] in ('true', 'false') and len(rest) == 1:
             fn.nots = True
-            return ('text', f'(ap not c.{lab}.{rest[0]})')
+            return ('text', f'(ap not \x03.{lab}.{rest[0]})')
         m = {'inv':'invariant','good':'ensures','taken':'true','not-taken':'false'}
         rest = [m.get(x, x) for x in rest[:1]] + rest[1:]
-        return ('text', '.'.join(['c', lab] + rest))
+        return ('text', '.'.join(['\x03', lab] + rest))
     q = p; hops = 0
     base = re.sub(r'_?(\d+)$', '', f)
     while q is not None:
@@ -79,7 +80,7 @@ def resolve(fn, place, fields, left):
     cands = sorted({fn.places[q][2] for q in chain if re.sub(r'_?\d+$','',fn.places[q][1]).replace('_','') == re.sub(r'_?\d+$','',f).replace('_','')})
     if len(cands) == 1: return fin(cands[0])
     left.append('?' + '.'.join([place] + list(fields)))
-    return ('text', '.'.join(['c', '«' + fs[0] + '»'] + fs[1:]))
+    return ('text', '.'.join(['\x03', '«' + fs[0] + '»'] + fs[1:]))
 
 def split_decls(src):
     """top-level declarations: list of (comments, text)"""
@@ -233,7 +234,7 @@ def conv(path, fnkey, fn, modpath):
             text = re.sub(r"\(" + re.escape(h) + r" \x01\w+\x02\)", subh, text)
             text = re.sub(r"(?<![\w'\-.])" + re.escape(h) + r" \x01\w+\x02", subh, text)
         if '\x01' in text: left.append('a place is passed on'); text = re.sub(r"\x01(\w+)\x02", r"«\1»", text)
-        text = text.replace(' κs', '')
+        text = text.replace(' κs', '').replace('\x03', 'c')
         text = re.sub(r"\.inv(?=[.\s),;\]}]|$)", ".invariant", text)
         text = re.sub(r"\.pre(?=[.\s),;\]}]|$)", ".requires", text)
         text = re.sub(r"\bargs\.t(\d+)\b", lambda m: 'args.' + fn.params[int(m.group(1)) - 1] if int(m.group(1)) <= len(fn.params) else m.group(0), text)

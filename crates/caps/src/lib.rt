@@ -15,7 +15,7 @@ use values::place_of;
 use widths::{least, wide};
 
 // What does not change along the line: the counts in use, the step and the train's length in m, and its last band's top in km/h.
-#[derive(Drop)]
+#[derive(Clone, Copy)]
 pub struct Course {
     pub limit_count: usize,
     pub balise_count: usize,
@@ -26,7 +26,7 @@ pub struct Course {
 
 // How many limits the head and the tail have reached, and how many balises the head. `lowest` is the lowest of the limits covered and the last
 // band's top, in km/h. All are the same at the points before `until`.
-#[derive(Drop)]
+#[derive(Clone, Copy)]
 pub struct Covered {
     pub head: usize,
     pub tail: usize,

@@ -20,7 +20,7 @@ fn less(a: u64, b: u64) -> u64
 }
 
 // The first `count` places are in use, at most 64; the others are 0.
-#[derive(Drop)]
+#[derive(Clone, Copy)]
 pub struct Places {
     pub count: usize,
     pub at: [u32; 64],

@@ -17,7 +17,7 @@ const FIGURES_SIZE: usize = 24;
 pub(crate) const POINT_SIZE: usize = 25;
 
 // Position in metres, speed in hundredths of a km/h, arrival in microseconds.
-#[derive(Drop)]
+#[derive(Clone, Copy)]
 pub struct DiagramPoint {
     pub position: f64,
     pub speed: f64,

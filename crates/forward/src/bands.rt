@@ -11,7 +11,7 @@ use values::{Line, SquaredSpeed, Train, change_over};
 use widths::{narrow, wide};
 
 // Of each band the squared speed gained over one step, and the square of 100 times its top; and whether the gains fall from band to band.
-#[derive(Drop)]
+#[derive(Clone, Copy)]
 pub struct Bands {
     pub count: usize,
     pub gains: [u32; 8],

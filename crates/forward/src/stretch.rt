@@ -24,7 +24,7 @@ fn cap_of(stopped: bool, v: u32) -> SquaredSpeed
 }
 
 // A squared speed under way, and the band by which the last step was drawn: the search for the next begins with it.
-#[derive(Drop)]
+#[derive(Clone, Copy)]
 pub struct Drawn {
     pub w: SquaredSpeed,
     pub band: usize,
@@ -59,7 +59,7 @@ fn capped_step<'a>(
 }
 
 // What a sweep carries from point to point: the squared speed of the point before, and the next stop.
-#[derive(Drop)]
+#[derive(Clone, Copy)]
 pub struct Swept {
     pub drawn: Drawn,
     pub stop: Stop,

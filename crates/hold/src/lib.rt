@@ -23,7 +23,7 @@ use widths::size;
 
 // The number 0 and the hold record, or the number of refusal and a record of no blocks.
 #[repr(C)]
-#[derive(Drop)]
+#[derive(Clone, Copy)]
 pub struct HoldAnswer {
     pub number: u64,
     pub hold: HoldRecord,

@@ -2,7 +2,7 @@
 #![tactic(auto)]
 
 #[repr(C)]
-#[derive(Drop)]
+#[derive(Clone, Copy)]
 pub struct HoldRecord {
     pub blocks: u64,
     // In microseconds, a place for each block; those beyond the block count are not read.

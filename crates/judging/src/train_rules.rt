@@ -73,7 +73,7 @@ fn last_block_kept(line: Line, train: Train) -> bool
 }
 
 // Which of the rules 3 and 7 to 9 a train keeps, or each of some trains.
-#[derive(Drop)]
+#[derive(Clone, Copy)]
 pub struct TrainKept {
     pub sizes: bool,
     pub bands: bool,

@@ -9,7 +9,7 @@ use reading::record_size;
 use values::Line;
 
 // The number 0, the line and the place of the record; or the number of refusal and zeros.
-#[derive(Drop)]
+#[derive(Clone, Copy)]
 pub(crate) struct Found {
     pub number: u64,
     pub line: Line,

@@ -15,7 +15,7 @@ use reading::record_size;
 
 // The number 0, the first byte of a record and how many bytes it has; or the number of refusal, 0 and 0.
 #[repr(C)]
-#[derive(Drop)]
+#[derive(Clone, Copy)]
 pub struct RecordPlace {
     pub number: u64,
     pub start: u64,

@@ -8,7 +8,7 @@ use reading::{decode_file, decode_train, length_refusal};
 use values::{Line, Train};
 
 // The number 0 and the file's line, T, and the place of its first train record; or the number of refusal and zeros.
-#[derive(Drop)]
+#[derive(Clone, Copy)]
 pub struct FileAnswer {
     pub number: u64,
     pub trains: usize,
@@ -17,7 +17,7 @@ pub struct FileAnswer {
 }
 
 // The number 0 and the line and the train; or the number of refusal and zeros.
-#[derive(Drop)]
+#[derive(Clone, Copy)]
 pub struct TrainAnswer {
     pub number: u64,
     pub line: Line,

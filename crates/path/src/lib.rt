@@ -15,7 +15,7 @@ use search::{Place, first_place};
 
 // The least start and how many trains are before it, 0 and 0 on a refusal.
 #[repr(C)]
-#[derive(Drop)]
+#[derive(Clone, Copy)]
 pub struct PathAnswer {
     pub number: u64,
     pub start: u64,

@@ -12,7 +12,7 @@ use order::clear_of;
 use waits::later;
 
 // A start, and how many trains are before its place.
-#[derive(Drop)]
+#[derive(Clone, Copy)]
 pub(crate) struct Place {
     pub start: u64,
     pub before: u64,

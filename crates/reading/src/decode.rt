@@ -12,7 +12,7 @@ use values::{Line, Train, TrainClass};
 use widths::size;
 
 // A file's line, T, and the place of its first train record.
-#[derive(Drop)]
+#[derive(Clone, Copy)]
 pub struct DecodedFile {
     pub line: Line,
     pub trains: usize,

@@ -33,7 +33,7 @@ pub(crate) const STOP_COUNT: usize = 6;
 const TOPS: usize = 8;
 
 // The arrays of the line, T, and the first train record.
-#[derive(Drop)]
+#[derive(Clone, Copy)]
 pub(crate) struct LinePlaces {
     pub limit_points: usize,
     pub limits: usize,
@@ -46,7 +46,7 @@ pub(crate) struct LinePlaces {
 }
 
 // The arrays of a train record, and the place past it.
-#[derive(Drop)]
+#[derive(Clone, Copy)]
 pub(crate) struct RecordPlaces {
     pub tops: usize,
     pub rates: usize,

@@ -9,7 +9,7 @@ ghost use Rattle.roots.specs.Root.{as_root};
 use values::{Speed, SquaredSpeed};
 
 // The speed, and what is left of the squared speed after its square.
-#[derive(Drop)]
+#[derive(Clone, Copy)]
 pub struct RootAnswer {
     pub speed: Speed,
     pub left: u32,

@@ -15,7 +15,7 @@ use values::{Line, Speed, SquaredSpeed, Train};
 use widths::{size, wide64};
 
 // A cell's time in microseconds, and the sum of its two roots that gives it. A sum of 0 stands for no cell.
-#[derive(Drop)]
+#[derive(Clone, Copy)]
 pub struct CellTime {
     pub sum: u32,
     pub time: u64,

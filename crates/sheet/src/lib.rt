@@ -23,7 +23,7 @@ use waits::{block_named, longest_wait};
 
 // For each block its free time, and the beginning of the first train's hold.
 #[repr(C)]
-#[derive(Drop)]
+#[derive(Clone, Copy)]
 pub struct Sheet {
     pub blocks: u64,
     pub trains: u64,
@@ -32,14 +32,14 @@ pub struct Sheet {
 }
 
 // The least start and the block named, or the number of refusal.
-#[derive(Drop)]
+#[derive(Clone, Copy)]
 pub enum Answer {
     Accepted { start: u64, block: u64 },
     Refused(u64),
 }
 
 // The answer, and the sheet as the call leaves it.
-#[derive(Drop)]
+#[derive(Clone, Copy)]
 pub struct Addition {
     pub answer: Answer,
     pub sheet: Sheet,
@@ -47,14 +47,14 @@ pub struct Addition {
 
 // The number 0 and a fresh sheet, or the number of refusal and a sheet of no blocks.
 #[repr(C)]
-#[derive(Drop)]
+#[derive(Clone, Copy)]
 pub struct Opening {
     pub number: u64,
     pub sheet: Sheet,
 }
 
 // The headway, or the number of the first refusal met.
-#[derive(Drop)]
+#[derive(Clone, Copy)]
 pub enum HeadwayAnswer {
     Headway(u64),
     Refused(u64),
@@ -62,7 +62,7 @@ pub enum HeadwayAnswer {
 
 // The period and its percentage of an hour, 0 and 0 on a refusal.
 #[repr(C)]
-#[derive(Drop)]
+#[derive(Clone, Copy)]
 pub struct PeriodAnswer {
     pub number: u64,
     pub period: u64,

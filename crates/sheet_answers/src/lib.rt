@@ -13,7 +13,7 @@ use sheet::{Answer, Opening, Sheet};
 
 // The least start and the block named, 0 and 0 on a refusal.
 #[repr(C)]
-#[derive(Drop)]
+#[derive(Clone, Copy)]
 pub struct Added {
     pub number: u64,
     pub start: u64,
@@ -22,14 +22,14 @@ pub struct Added {
 
 // The headway, 0 on a refusal.
 #[repr(C)]
-#[derive(Drop)]
+#[derive(Clone, Copy)]
 pub struct HeadwayAnswer {
     pub number: u64,
     pub headway: u64,
 }
 
 // The answer of an adding call, and the sheet as the call leaves it.
-#[derive(Drop)]
+#[derive(Clone, Copy)]
 pub struct Step {
     pub answer: Added,
     pub sheet: Sheet,

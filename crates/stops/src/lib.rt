@@ -8,7 +8,7 @@ ghost use Rattle.stops.specs.Stops.{used, stop_from, stop_number, stop_ahead, dw
 use widths::{least, size, wide64};
 
 // The number of a stop and its point. Where there is no such stop, the point is beyond every point of a line.
-#[derive(Drop)]
+#[derive(Clone, Copy)]
 pub struct Stop {
     pub number: usize,
     pub point: usize,

@@ -16,7 +16,7 @@ use widths::least;
 
 // How many trains the file has, 0 on a refusal.
 #[repr(C)]
-#[derive(Drop)]
+#[derive(Clone, Copy)]
 pub struct RowsAnswer {
     pub number: u64,
     pub trains: u64,

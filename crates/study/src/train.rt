@@ -15,7 +15,7 @@ use sheet::Answer;
 use values::Line;
 
 // A train's hold record and its running time.
-#[derive(Drop)]
+#[derive(Clone, Copy)]
 pub(crate) struct Timed {
     pub hold: HoldRecord,
     pub run: u64,

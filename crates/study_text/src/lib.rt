@@ -14,7 +14,7 @@ use text::{WriteAnswer, put_refusal, put_sheet};
 const MOST_INPUT: usize = 16384;
 
 // A text that always fits, and how many bytes it has; the places behind it are 0.
-#[derive(Drop)]
+#[derive(Clone, Copy)]
 pub struct ProgramText {
     pub text: [u8; 2390],
     pub bytes: usize,

@@ -19,7 +19,7 @@ use refusals::{TOO_FEW, sheet_refusal};
 
 // The number 0 and how many bytes are written, or the number of refusal and 0.
 #[repr(C)]
-#[derive(Drop)]
+#[derive(Clone, Copy)]
 pub struct WriteAnswer {
     pub number: u64,
     pub bytes: u64,

@@ -3,7 +3,7 @@ ghost use Rattle.std.specs.Prelude.{◌≡◌};
 ghost use Rattle.rules.specs.Line.{practice_rate};
 
 // A train's class, by the file's number.
-#[derive(Drop)]
+#[derive(Clone, Copy)]
 pub struct TrainClass(pub u16);
 
 // In cm/s², by class.

@@ -1,7 +1,7 @@
 // The line and a train as the file's numbers, decoded once. Each count says how many entries of its arrays are in use.
 use crate::class::TrainClass;
 
-#[derive(Drop)]
+#[derive(Clone, Copy)]
 pub struct Line {
     pub points: u16,
     // In m.
@@ -23,7 +23,7 @@ pub struct Line {
     pub balise_metres: [u16; 64],
 }
 
-#[derive(Drop)]
+#[derive(Clone, Copy)]
 pub struct Train {
     pub class: TrainClass,
     // In m.

@@ -2,11 +2,11 @@
 ghost use Rattle.std.specs.Prelude.{◌≡◌, min};
 
 // In hundredths of a km/h.
-#[derive(Drop)]
+#[derive(Clone, Copy)]
 pub struct Speed(pub u32);
 
 // The square of a speed in hundredths of a km/h.
-#[derive(Drop)]
+#[derive(Clone, Copy)]
 pub struct SquaredSpeed(pub u32);
 
 impl SquaredSpeed {

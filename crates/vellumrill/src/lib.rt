@@ -36,7 +36,7 @@ use widths::wide64;
 
 // P, L in m, B and T, all 0 on a refusal.
 #[repr(C)]
-#[derive(Drop)]
+#[derive(Clone, Copy)]
 pub struct Sizes {
     pub number: u64,
     pub points: u64,
