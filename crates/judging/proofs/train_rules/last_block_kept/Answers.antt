@@ -10,9 +10,9 @@ use Rattle.judging.proofs.train_rules.last_block_kept.Goals as goal
 pub overflow_add-result : goal.overflow_add-result
 unfolding train_cells ceil_div
 overflow_add-result c = let a = c.args in
-    omega (arith, c.train_cells-cells.ensures, div-le_self (a.train.length + (a.t1.step - 1)) a.t1.step)
+    omega (arith, c.train_cells-cells.ensures, div-le_self (a.train.length + (a.line.step - 1)) a.line.step)
 
 pub returns : goal.returns
 returns c = let a = c.args in
-    rw (last_block_numbers a.t1 a.train (omega arith))
+    rw (last_block_numbers a.line a.train (omega arith))
     (rw (c.size-end.ensures.0, c.train_cells-cells.ensures, c.size.ensures.0))
