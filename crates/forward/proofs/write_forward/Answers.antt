@@ -18,91 +18,84 @@ use Rattle.forward.specs.Stretch.{Before}
 use Rattle.forward.proofs.Traction.{count-least, count_most, bands_bounded, traction_is, last-most}
 use Rattle.forward.proofs.Sweeping.{OnCourse, before-start}
 use borrow.Author.Rules.{rules}
+use Rattle.values.specs.declared.decoded.Line.{Line as DecodedLine}
+use Rattle.values.specs.declared.decoded.Train.{Train as DecodedTrain}
+use Rattle.caps.specs.Caps.{limit_places, balise_places}
+use Rattle.caps.specs.declared.places.Places.{Places}
+use Rattle.forward.specs.Traction.{IsBands}
+use Rattle.forward.specs.declared.bands.Bands.{Bands}
+use Rattle.rules.specs.Admitted.{Admitted}
+use Rattle.rules.specs.Run.{last_top}
+use Prim.Native.Nat.{ℕ}
 use Rattle.forward.proofs.write_forward.Goals as goal
 
--- what was found before the loop is of such a line
-abbrev OfLine : tie.At-loop invariant-loop decreases-loop → Line → Type 0
-OfLine c l =
-    let a = (start c).args in
-    OnCourse l (as_train a.train) (limits c).limit_places_lem.result.at a.line.limits (balises c).balise_places_lem.result.at
-    (record {
-      limit_count = (limits c).limit_places_lem.result.count;
-      balise_count = (balises c).balise_places_lem.result.count;
-      step = a.line.step;
-      length = a.train.length;
-      top = (begun c).before.last-top.result;
-    })
-    (begun c).bands-of.result a.end
+-- the line that is swept is one to which what was found before the loop belongs
+here :
+    (line : DecodedLine) (train : DecodedTrain) {begun balises : Places} {top end : ℕ} {bands : Bands} → Admitted (as_line line) (as_train train) →
+    begun ≡ limit_places line → balises ≡ balise_places line → top ≡ last_top (as_train train) → IsBands (as_line line) (as_train train) bands →
+    end ≤ line.points →
+    OnCourse (as_line line) (as_train train) begun.at line.limits balises.at
+    (record { limit_count = begun.count; balise_count = balises.count; step = line.step; length = train.length; top = top }) bands end
+here line train a p q e b m = record { admitted = a; course = course_is line train a p q e; bands = b; on_line = m }
 
--- what the train covers at this point
-known :
-    (c : tie.After-covered-at invariant-loop decreases-loop) → let o = (in-loop c).before in
-    (l : Line) → OfLine o l → Known l (as_train (start o).args.train) o.loop.i c.covered-at.result
-known c l on =
-    let o = (in-loop c).before in
-    known_at l _ on.admitted on.course o.loop.i c.before.narrow-point.ensures (o.loop.inv.3 l on).0 c.covered-at.ensures
+-- the stops in use
+few : (train : DecodedTrain) {line : Line} → Admitted line (as_train train) → train.stop_count ≤ 64
+few train a = let n = length-row (entry train.stops) train.stop_count in omega (arith, a.rule3_train.stops-most)
 
 pub last_top-requires : goal.last_top-requires
-last_top-requires c = (count-least _ c.args.train c.requires.admitted, omega (arith, count_most _ c.args.train c.requires.admitted))
+last_top-requires c =
+    (count-least _ c.args.train c.requires.admitted, omega (arith, count_most _ c.args.train c.requires.admitted))
 
 pub loop-i-init : goal.loop-i-init
 loop-i-init c =
-    let few : c.args.train.stop_count ≤ 64 = (let n = length-row (entry c.args.train.stops) c.args.train.stop_count in
-    omega (arith, c.requires.admitted.rule3_train.stops-most)) in
     let first = c.swept_from-swept.ensures in (
       omega arith,
-      rw first.1 (behind-first c.args.train.stops few c.first_stop.ensures),
+      rw first.1 (behind-first c.args.train.stops (few c.args.train c.requires.admitted) c.first_stop.ensures),
       omega (arith, first.0),
       λ l on. (nearing_first l _ on.admitted refl, rw first.0 (before-start l _), fill_none _ _ _),
     )
 
 pub narrow_point-requires : goal.narrow_point-requires
-narrow_point-requires c =
-    let near : c.args.end < 65536 = (omega (arith, c.requires.end_le_points.0, c.requires.admitted.rule3_line.points-most)) in
-    omega (arith, c.loop-i-test.true, near)
+narrow_point-requires c = omega (arith, c.loop-i-test.true, c.requires.end_le_points.0, c.requires.admitted.rule3_line.points-most)
 
 pub stretch_end-next-requires : goal.stretch_end-next-requires
 stretch_end-next-requires c = c.loop-i-test.true
 
 pub write_stretch-swept-requires : goal.write_stretch-swept-requires
 write_stretch-swept-requires c =
-    let here : OfLine «At_loop» (as_line c.args.line) = (record {
-      admitted = c.requires.admitted;
-      course = course_is c.args.line c.args.train c.requires.admitted c.limit_places-begun.ensures c.balise_places-balises.ensures
-          c.last_top.ensures;
-      bands = c.bands_of-bands.ensures;
-      on_line = c.requires.end_le_points.0;
-    }) in
-    let near : c.args.end < 65536 = (omega (arith, c.requires.end_le_points.0, c.requires.admitted.rule3_line.points-most)) in
-    let few : c.args.train.stop_count ≤ 64 = (let n = length-row (entry c.args.train.stops) c.args.train.stop_count in
-    omega (arith, c.requires.admitted.rule3_train.stops-most)) in
-    let on = here in
-    let m = last-most _ _ c.requires.admitted _ on.bands in
+    let admitted = c.requires.admitted in
+    let on =
+    here c.args.line c.args.train admitted c.limit_places-begun.ensures c.balise_places-balises.ensures c.last_top.ensures c.bands_of-bands.ensures
+    c.requires.end_le_points.0 in
+    let done = c.loop-i.invariant.3 _ on in
+    let m = last-most _ _ admitted _ on.bands in
     let e = c.stretch_end-next.ensures in
-    let low = known_top _ _ c.requires.admitted (known «After_covered_at» _ on) in
-    let long = (c.loop-i.invariant.3 _ on).2.long in record {
-      band_bounds = (bands_bounded _ _ c.requires.admitted _ on.bands, on.bands.falls);
-      le_count = (m.0, rw m.1 (squared_mono low), le_trans low (last_top-most _ _ c.requires.admitted));
+    let low = known_top _ _ admitted (known_at _ _ on.admitted on.course c.loop-i.i c.narrow_point.ensures done.0 c.covered_at-covered.ensures) in
+    let long = done.2.long in
+    record {
+      band_bounds = (bands_bounded _ _ admitted _ on.bands, on.bands.falls);
+      le_count = (m.0, rw m.1 (squared_mono low), le_trans low (last_top-most _ _ admitted));
       w_bound = c.loop-i.invariant.2;
-      stop_count_bound = (few, c.requires.admitted.rule8.apart);
+      stop_count_bound = (few c.args.train admitted, admitted.rule8.apart);
       behind = c.loop-i.invariant.1;
-      from_le_end = (omega (arith, e.0), omega (arith, e.1, long, c.requires.end_le_points.1), omega (arith, e.1, near));
+      from_le_end =
+          (omega (arith, e.0), omega (arith, e.1, long, c.requires.end_le_points.1), omega (arith, e.1, c.requires.end_le_points.0, admitted.rule3_line.points-most));
     }
 
 pub loop-i-smaller : goal.loop-i-smaller
-loop-i-smaller c = let e = c.stretch_end-next.ensures in
-    omega (arith, e.0, e.1)
+loop-i-smaller c = let e = c.stretch_end-next.ensures in omega (arith, e.0, e.1)
 
 pub loop-i-preserved : goal.loop-i-preserved
-loop-i-preserved c = let swept = c.write_stretch-swept.ensures in
+loop-i-preserved c =
+    let swept = c.write_stretch-swept.ensures in
     let e = c.stretch_end-next.ensures in (
       e.1,
-      swept.0.0,
-      swept.0.1,
+      swept.carried.0,
+      swept.carried.1,
       λ l on.
           let done = c.loop-i.invariant.3 l on in
-          let covers = known «After_covered_at» l on in
-          let (before, filled) = swept.1 l _ (record {
+          let covers = known_at l _ on.admitted on.course c.loop-i.i c.narrow_point.ensures done.0 c.covered_at-covered.ensures in
+          let (before, filled) = swept.speeds l _ (record {
             admitted = on.admitted;
             traction = traction_is l _ on.admitted _ on.bands;
             stops_are = refl;
@@ -116,23 +109,15 @@ loop-i-preserved c = let swept = c.write_stretch-swept.ensures in
 
 pub shape_of-speeds : goal.shape_of-speeds
 shape_of-speeds c =
-    let here : OfLine «At_loop» (as_line c.args.line) = (record {
-      admitted = c.requires.admitted;
-      course = course_is c.args.line c.args.train c.requires.admitted c.limit_places-begun.ensures c.balise_places-balises.ensures
-          c.last_top.ensures;
-      bands = c.bands_of-bands.ensures;
-      on_line = c.requires.end_le_points.0;
-    }) in
-    (c.loop-i.invariant.3 _ here).2.long
+    let on =
+    here c.args.line c.args.train c.requires.admitted c.limit_places-begun.ensures c.balise_places-balises.ensures c.last_top.ensures
+    c.bands_of-bands.ensures c.requires.end_le_points.0 in
+    (c.loop-i.invariant.3 _ on).2.long
 
 pub returns : goal.returns
 returns c =
-    let here : OfLine «At_loop» (as_line c.args.line) = (record {
-      admitted = c.requires.admitted;
-      course = course_is c.args.line c.args.train c.requires.admitted c.limit_places-begun.ensures c.balise_places-balises.ensures
-          c.last_top.ensures;
-      bands = c.bands_of-bands.ensures;
-      on_line = c.requires.end_le_points.0;
-    }) in
+    let on =
+    here c.args.line c.args.train c.requires.admitted c.limit_places-begun.ensures c.balise_places-balises.ensures c.last_top.ensures
+    c.bands_of-bands.ensures c.requires.end_le_points.0 in
     let q : c.loop-i.i ≡ c.args.end = omega (arith, c.loop-i-test.false, c.loop-i.invariant.0) in
-    fill_written (c.loop-i.invariant.3 _ here).2 q c.requires.end_le_points.1
+    fill_written (c.loop-i.invariant.3 _ on).2 q c.requires.end_le_points.1

@@ -25,8 +25,10 @@ invariant-loop-i l =
     (l.i ≤ l.end)
     × Behind (as_train l.train).stops l.swept.stop l.i
     × (l.swept.drawn.w.0 ≤ 900000000)
-    × ((l : Line) → OnCourse l (as_train l.train) l.limits_at l.limits l.balises_at l.course l.bands l.end →
-    Nearing l (as_train l.train) l.i l.covered × Before l (as_train l.train) l.i l.swept.drawn.w.0 × Filled (forward l (as_train l.train)) 0 l.i l.initial.speeds l.speeds)
+    × ((line : Line) → OnCourse line (as_train l.train) l.limits_at l.limits l.balises_at l.course l.bands l.end →
+    Nearing line (as_train l.train) l.i l.covered
+    × Before line (as_train l.train) l.i l.swept.drawn.w.0
+    × Filled (forward line (as_train l.train)) 0 l.i l.initial.speeds l.speeds)
 
 abbrev pub decreases-loop-i : goal.decreases-loop-i
 decreases-loop-i l =
