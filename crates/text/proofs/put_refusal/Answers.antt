@@ -27,6 +27,6 @@ returns c =
     let number = c.args.number in
     let room : length (refusal_text number) ≤ length c.args.buf.now = omega (arith, refusal-length number) in
     let said =
-        wrote_all _ _ (sym (room_enough _ _ room))
-        (placed_then (omega (arith, room, refusal-length number, field-length number 10)) c.write_bytes-at.ensures c.write_field-end.ensures) in
+    wrote_all _ _ (sym (room_enough _ _ room))
+    (placed_then (omega (arith, room, refusal-length number, field-length number 10)) c.write_bytes-at.ensures c.write_field-end.ensures) in
     record { answer = said.0; bytes = said.1 }

@@ -34,7 +34,7 @@ unfolding rows_text header
 returns c =
     let a = c.args in
     let none : sheet_refusal a.starts.now a.runs.now a.blocks.now (length a.buf.now) ≡ 0
-        = sym c.sheet_refusal-number.ensures ∙ c.if-number-ne0.false in
+    = sym c.sheet_refusal-number.ensures ∙ c.if-number-ne0.false in
     let there = sheet-there a.starts.now a.runs.now a.blocks.now (length a.buf.now) none in
     let long = rows-length a.starts.now a.runs.now a.blocks.now in
     let said = wrote_all _ _ none (placed_then (omega (arith, there.1)) c.write_bytes-at.ensures c.write_lines-end.ensures) in

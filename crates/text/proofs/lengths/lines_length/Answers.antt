@@ -1,5 +1,4 @@
 -- `lines_length` meets its contract. The invariant: the total is the length of the lines passed, at most 84 bytes each.
-use Prim.Native.Nat.{◌-◌, ◌*◌, ◌≤◌}
 use mathlib.Core.Path.{◌≡◌, refl, ap}
 use native.Mathlib.Omega.{arith}
 use lib.ListN.{length}

@@ -21,7 +21,7 @@ write_line-next-requires c =
     let k = c.loop-k.k in
     let lines = line_at a.starts.now a.runs.now a.blocks.now in
     let read : train_line (k + 1) c.entry_at-start.result c.entry_at-run.result c.entry_at-block.result ≡ lines k
-        = line_read _ _ _ _ c.entry_at-start.ensures c.entry_at-run.ensures c.entry_at-block.ensures in
+    = line_read _ _ _ _ c.entry_at-start.ensures c.entry_at-run.ensures c.entry_at-block.ensures in
     let room = joined-within lines k (length a.starts.now) (omega arith) in
     omega (arith, ap length read)
 
@@ -31,8 +31,8 @@ loop-k-preserved c =
     let a = c.args in
     let k = c.loop-k.k in
     let read : train_line (k + 1) c.entry_at-start.result c.entry_at-run.result c.entry_at-block.result
-        ≡ line_at a.starts.now a.runs.now a.blocks.now k
-        = line_read _ _ _ _ c.entry_at-start.ensures c.entry_at-run.ensures c.entry_at-block.ensures in
+    ≡ line_at a.starts.now a.runs.now a.blocks.now k
+    = line_read _ _ _ _ c.entry_at-start.ensures c.entry_at-run.ensures c.entry_at-block.ensures in
     let placed = rw read at c.write_line-next.ensures in
     (omega arith, omega arith, joined-placed _ _ _ c.requires.blocks_in_bounds (omega arith) c.loop-k.invariant.2 placed)
 
