@@ -25,6 +25,7 @@ IDF = r"[A-Za-z0-9_][A-Za-z0-9_'\-₀₁₂₃₄₅₆₇₈₉]*"
 PATH = re.compile(r"(?<![A-Za-z0-9_'\-.₀-₉])(" + ID + r")((?:\." + IDF + r")*)")
 
 CLAUSES = {}
+PARAMS = {}
 top = os.path.dirname(crate_dir)
 for r_, d_, f_ in os.walk(top):
     d_[:] = [x for x in d_ if x not in ('out', 'specs', 'proofs', 'must-fail')]
@@ -34,6 +35,8 @@ for r_, d_, f_ in os.walk(top):
             cr_ = os.path.relpath(r_, top).split(os.sep)[0]
             for m_ in re.finditer(r"\bfn (\w+)(.*?)\n\s*\{\n", src_, re.S):
                 if '\nfn ' in m_.group(2): continue
+                pm = re.match(r"\s*(?:<[^>]*>)?\(([^)]*)\)", m_.group(2))
+                if pm: PARAMS[(cr_, m_.group(1))] = [('self' if 'self' in x and ':' not in x else x.split(':')[0].replace('mut ', '').strip()) for x in pm.group(1).split(',') if x.strip()]
                 cl = re.findall(r"^\s+(requires|ensures)\*? ?(\w*) \{", m_.group(2), re.M)
                 CLAUSES[(cr_, m_.group(1))] = ([n for k, n in cl if k == 'requires'], [n for k, n in cl if k == 'ensures'])
 def clause_path(ns, digits):
@@ -125,6 +128,10 @@ def resolve(fn, place, fields, left):
         m = {'inv':'invariant','good':'ensures','taken':'true','not-taken':'false'}
         rest = [m.get(x, x) for x in rest[:1]] + rest[1:]
         key = fn.callee.get(lab)
+        if rest and rest[0] == 'new' and key and key in PARAMS:
+            ds = rest[1:]; k = 0
+            while ds and ds[0] == '1': ds.pop(0); k += 1
+            if ds and ds[0] == '0' and k < len(PARAMS[key]): rest = ['new', PARAMS[key][k]] + ds[1:]
         if rest and rest[0] == 'ensures' and key:
             rest = ['ensures'] + clause_path(CLAUSES.get(key, ([], []))[1], rest[1:])
         if len(rest) > 1 and rest[0] not in ('ensures', 'result', 'new', 'invariant', 'true', 'false'): rest = [norm(rest[0])] + rest[1:]

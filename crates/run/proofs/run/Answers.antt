@@ -20,10 +20,10 @@ returns c = let a = c.args in
     let z = train_asked _ _ o c.if-opened-ne0.false in
     let line = opened_line _ _ o c.if-opened-ne0.false in
     let train = opened-train _ _ o c.if-opened-ne0.false in
-    let all = as_run _ _ z line train a.speeds.now a.times.now r.0 r.1.0 r.1.1.0 in
+    let all = as_run _ _ z line train a.speeds.now a.times.now r.number r.speeds r.times in
     record {
       number = all.0;
       speeds = all.1;
       times = all.2;
-      fastest = λ y. as_fastest _ _ z line train _ _ (r.1.1.1 y);
+      fastest = λ y. as_fastest _ _ z line train _ _ (r.fastest y);
     }

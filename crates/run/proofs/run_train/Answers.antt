@@ -37,9 +37,9 @@ returns-then-number-ne0 c = let sweep = c.sweep_to-number.ensures in
     let a = c.args in
     let l = as_line a.line in
     let t = as_train a.train in
-    let e = refused_on l t (length a.speeds.now) (length a.times.now) sweep.0 c.if-number-ne0.true in
+    let e = refused_on l t (length a.speeds.now) (length a.times.now) sweep.number c.if-number-ne0.true in
     let same = buffers_kept l t a.speeds.now a.times.now e c.if-number-ne0.true in
-    let left = sweep.1.0 ∙ sym (not_swept l t a.line.points a.speeds.now (λ z. c.if-number-ne0.true (sweep.0 ∙ z))) in
+    let left = sweep.speeds ∙ sym (not_swept l t a.line.points a.speeds.now (λ z. c.if-number-ne0.true (sweep.number ∙ z))) in
     record {
       number = e;
       speeds = left ∙ same.0;
@@ -52,7 +52,7 @@ write_run-requires c =
     let room : let a = c.args in (a.line.points ≤ length a.speeds.now) × (a.line.points ≤ length a.times.now) = (let e = c.least.ensures in
     (omega (arith, c.if-least-size.false, c.size.ensures.0, e), omega (arith, c.if-least-size.false, c.size.ensures.0, e))) in
     let kept : let a = c.args in refusal (rules_on (as_line a.line) (as_train a.train)) ≡ 0 = (sym c.sweep_to-number.ensures.number ∙ c.if-number-ne0.false) in
-    let forward-row : let a = c.args in c.sweep_to-number.new.1.1.1.0 ≡ written a.speeds.now 0 (row (forward (as_line a.line) (as_train a.train)) a.line.points) = (let a = c.args in
+    let forward-row : let a = c.args in c.sweep_to-number.new.speeds ≡ written a.speeds.now 0 (row (forward (as_line a.line) (as_train a.train)) a.line.points) = (let a = c.args in
     whole_line (as_line a.line) (as_train a.train) a.speeds.now kept room.0 c.sweep_to-number.ensures.speeds) in
     let a = c.args in
     let r = room in
@@ -69,7 +69,7 @@ returns c =
     let room : let a = c.args in (a.line.points ≤ length a.speeds.now) × (a.line.points ≤ length a.times.now) = (let e = c.least.ensures in
     (omega (arith, c.if-least-size.false, c.size.ensures.0, e), omega (arith, c.if-least-size.false, c.size.ensures.0, e))) in
     let kept : let a = c.args in refusal (rules_on (as_line a.line) (as_train a.train)) ≡ 0 = (sym c.sweep_to-number.ensures.number ∙ c.if-number-ne0.false) in
-    let forward-row : let a = c.args in c.sweep_to-number.new.1.1.1.0 ≡ written a.speeds.now 0 (row (forward (as_line a.line) (as_train a.train)) a.line.points) = (let a = c.args in
+    let forward-row : let a = c.args in c.sweep_to-number.new.speeds ≡ written a.speeds.now 0 (row (forward (as_line a.line) (as_train a.train)) a.line.points) = (let a = c.args in
     whole_line (as_line a.line) (as_train a.train) a.speeds.now kept room.0 c.sweep_to-number.ensures.speeds) in
     let a = c.args in
     let l = as_line a.line in

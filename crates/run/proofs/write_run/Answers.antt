@@ -12,10 +12,6 @@ use native.Mathlib.Omega.{arith}
 use borrow.Author.Rules.{rules}
 use Rattle.run.proofs.write_run.Goals as goal
 
--- the buffer after both sweeps
-abbrev Run : (a : tie.Start) → List ℕ → Type 0
-Run a s = s ≡ written a.args.speeds.now 0 (run_row (as_line a.args.line) (as_train a.args.train))
-
 pub write_backward-requires : goal.write_backward-requires
 write_backward-requires c =
     let loss : c.narrow-loss.result ≡ braking_loss (as_line c.args.line) (as_train c.args.train) = (omega (arith, loss_most _ _ c.requires.admitted, c.narrow-loss.ensures, c.braking_loss.ensures)) in
@@ -31,21 +27,21 @@ write_backward-requires c =
 pub write_times-requires : goal.write_times-requires
 write_times-requires c =
     let loss : c.narrow-loss.result ≡ braking_loss (as_line c.args.line) (as_train c.args.train) = (omega (arith, loss_most _ _ c.requires.admitted, c.narrow-loss.ensures, c.braking_loss.ensures)) in
-    let run_done : Run «Start» c.write_backward.new.1.1.0 = (sweeps_run (as_line c.args.line) (as_train c.args.train) c.args.speeds.now c.requires.by_index
+    let run_done : c.write_backward.new.speeds ≡ written c.args.speeds.now 0 (run_row (as_line c.args.line) (as_train c.args.train)) = (sweeps_run (as_line c.args.line) (as_train c.args.train) c.args.speeds.now c.requires.by_index
     (rw (c.size.ensures.0, loss) at c.write_backward.ensures)) in
-    let a = c.«before».before in
+    let a = c.args in
     let e = run_done in
-    let n = length_run (as_line a.args.line) (as_train a.args.train) in
-    let long = written_long a.args.speeds.now _ e (rw n a.requires.1.0.0) in
+    let n = length_run (as_line a.line) (as_train a.train) in
+    let long = written_long a.speeds.now _ e (rw n c.requires.points_in_bounds.0) in
     record {
-      admitted = a.requires.0;
-      points_in_bounds = (omega (arith, long, a.requires.1.0.0), a.requires.1.0.1);
-      by_index = λ k h. written_entries a.args.speeds.now _ e k (rw n h);
+      admitted = c.requires.admitted;
+      points_in_bounds = (omega (arith, long, c.requires.points_in_bounds.0), c.requires.points_in_bounds.1);
+      by_index = λ k h. written_entries a.speeds.now _ e k (rw n h);
     }
 
 pub returns : goal.returns
 returns c =
     let loss : c.narrow-loss.result ≡ braking_loss (as_line c.args.line) (as_train c.args.train) = (omega (arith, loss_most _ _ c.requires.admitted, c.narrow-loss.ensures, c.braking_loss.ensures)) in
-    let run_done : Run «Start» c.write_backward.new.1.1.0 = (sweeps_run (as_line c.args.line) (as_train c.args.train) c.args.speeds.now c.requires.by_index
+    let run_done : c.write_backward.new.speeds ≡ written c.args.speeds.now 0 (run_row (as_line c.args.line) (as_train c.args.train)) = (sweeps_run (as_line c.args.line) (as_train c.args.train) c.args.speeds.now c.requires.by_index
     (rw (c.size.ensures.0, loss) at c.write_backward.ensures)) in
     (run_done, c.write_times.ensures)
