@@ -1,4 +1,4 @@
--- `with_hold`: the number of refusal, then the addition's parts. Assumes nothing.
+-- `with_hold`: the number of refusal, then the addition's parts.
 use Prim.Native.Nat.{ℕ, ◌+◌, ◌-◌, ◌*◌, ◌^◌, ◌≤◌, min}
 use mathlib.Core.Bool.{true, cond}
 use mathlib.Core.List.{List, []}
@@ -7,7 +7,6 @@ use mathlib.Core.Path.{◌≡◌, sym, ap, ◌∙◌}
 use native.Mathlib.Nat.{min-eq_left}
 use native.Mathlib.Omega.{arith}
 use lib.Dec.{eqb}
-use borrow.Author.Rules.{rules}
 use Rattle.rules.specs.Admitted.{Rule12, Rule14}
 use Rattle.rules.specs.Calls.{Addition, accepted, refuse, added}
 use Rattle.rules.specs.Count.{set_below, greatest_below, or_zero}
@@ -19,8 +18,7 @@ use Rattle.rules.proofs.Sheet.{rule_12, rule_14, all_kept_lem, added-kept, added
 use Rattle.holds.specs.Values.{as_hold}
 use Rattle.sheet.specs.Values.{as_sheet}
 use Rattle.sheet_judging.specs.Fields.{sheet_from, hold_from}
-use Rattle.sheet.proofs.with_hold.Statement.{statement}
-use Rattle.sheet.proofs.with_hold.Tie as tie
+use Rattle.sheet.proofs.with_hold.Goals as goal
 
 -- a number other than 0 is that of a broken rule
 some_of : (o : Option ℕ) {n : ℕ} → n ≡ or_zero o → (n ≡ 0 → ⊥) → o ≡ some n
@@ -81,74 +79,34 @@ module _ (s : Sheet) (h : Hold) (kept : Kept s h) {start : ℕ}
   accepted_by f g k =
       rw (added-kept s h ((all_kept_lem s h).1 kept), ← found) (cc (f, block_of_lem s h kept.0.blocks-most start, after_of s h start g k))
 
--- the places past the refusals, past the start, past the block named and past the first train's beginnings
-abbrev judged : tie.After-longest-wait-arg2 → tie.Else1
-judged c = c.before.before.before.before
+pub returns-then-number-ne0 : goal.returns-then-number-ne0
+returns-then-number-ne0 c = refused_by _ _ c.adding_refusal-number.ensures c.if-number-ne0.true
 
-abbrev started : tie.After-block-named-arg2 → tie.After-longest-wait
-started c = c.before.before.before.before
+pub keep_first-requires : goal.keep_first-requires
+keep_first-requires c =
+    let sheet-of : Sheet = (as_sheet c.args.sheet) in
+    let hold-of : Hold = (as_hold c.args.hold) in
+    let kept : Kept sheet-of hold-of = (kept_by sheet-of hold-of c.adding_refusal-number.ensures c.if-number-ne0.false) in
+    kept.0.blocks-most
 
-abbrev named : tie.After-keep-first-arg2 → tie.After-block-named
-named c = c.before.before.before
+pub overflow_add-next : goal.overflow_add-next
+overflow_add-next c =
+    let sheet-of : Sheet = (as_sheet c.args.sheet) in
+    let hold-of : Hold = (as_hold c.args.hold) in
+    let kept : Kept sheet-of hold-of = (kept_by sheet-of hold-of c.adding_refusal-number.ensures c.if-number-ne0.false) in
+    omega (arith, kept.0.trains-most)
 
-abbrev begun : tie.After-release-arg2 → tie.After-keep-first
-begun c = c.before.before.before
+pub release-requires : goal.release-requires
+release-requires c =
+    let sheet-of : Sheet = (as_sheet c.args.sheet) in
+    let hold-of : Hold = (as_hold c.args.hold) in
+    let kept : Kept sheet-of hold-of = (kept_by sheet-of hold-of c.adding_refusal-number.ensures c.if-number-ne0.false) in
+    record { blocks_bound = (kept.0.blocks-most, start_in sheet-of hold-of kept c.longest_wait-start.ensures); by_index = kept.2.end-most }
 
--- the entry, with the call's sheet and hold record, which is `t2` there
-abbrev entered : tie.Else1 → tie.Start
-entered c = c.before.before.before.before.before.before.before.before
-
-abbrev sheet-of : tie.Else1 → Sheet
-sheet-of c = as_sheet (entered c).args.sheet
-
-abbrev hold-of : tie.Else1 → Hold
-hold-of c = as_hold (entered c).args.t2
-
-kept : (c : tie.Else1) → Kept (sheet-of c) (hold-of c)
-kept c = kept_by (sheet-of c) (hold-of c) c.before.adding-refusal.ensures c.if1.false
-
-adding-refusal-requires : tie.Need-adding-refusal-requires
-adding-refusal-requires c κs = search rules
-
-returns : tie.Need-returns
-returns c = refused_by _ _ c.before.adding-refusal.ensures c.if1.true
-
-longest-wait-requires : tie.Need-longest-wait-requires
-longest-wait-requires c κs = search rules
-
-block-named-requires : tie.Need-block-named-requires
-block-named-requires c κs = search rules
-
-keep-first-requires : tie.Need-keep-first-requires
-keep-first-requires c κs = (kept (judged (started (named c).before).before)).0.blocks-most
-
-add-next : tie.Need-overflow-add-next
-add-next c = omega (arith, (kept (judged (started (named c.before).before).before)).0.trains-most)
-
-release-requires : tie.Need-release-requires
-release-requires c κs =
-    let start = started (named (begun c).before).before in
-    let s = judged start.before in
-    (((kept s).0.blocks-most, start_in (sheet-of s) (hold-of s) (kept s) start.longest-wait.ensures), (kept s).2.end-most)
-
-returns_2 : tie.Need-returns-2
-returns_2 c =
-    let first = begun c.before in
-    let block = named first.before in
-    let start = started block.before in
-    let s = judged start.before in
-    accepted_by (sheet-of s) (hold-of s) (kept s) start.longest-wait.ensures block.block-named.ensures c.release.ensures
-    first.keep-first.ensures
-
-pub with_hold_spec : {M : Type 1} → statement M
-with_hold_spec =
-    tie.close
-    (tie.spec
-    adding-refusal-requires
-    returns
-    longest-wait-requires
-    block-named-requires
-    keep-first-requires
-    add-next
-    release-requires
-    returns_2)
+pub returns : goal.returns
+returns c =
+    let sheet-of : Sheet = (as_sheet c.args.sheet) in
+    let hold-of : Hold = (as_hold c.args.hold) in
+    let kept : Kept sheet-of hold-of = (kept_by sheet-of hold-of c.adding_refusal-number.ensures c.if-number-ne0.false) in
+    accepted_by sheet-of hold-of kept c.longest_wait-start.ensures c.block_named-block.ensures c.release.ensures
+    c.keep_first.ensures
