@@ -354,6 +354,10 @@ def conv(path, fnkey, fn, modpath):
             b = trans(body, {var: place})
         except Exception as e:
             left.append(f'{name}: {e!r}'); b = body
+        for lm in re.finditer(r"let (" + ID + r") = c\.(" + ID + r")\.ensures in\b", b):
+            key = fn.callee.get(lm.group(2)); cn = CLAUSES.get(key, ([], []))[1]
+            if len(cn) > 1:
+                b = re.sub(r"(?<![\w'.\-])" + re.escape(lm.group(1)) + r"((?:\.[01])+)(?![\w])", lambda mm: lm.group(1) + '.' + '.'.join(clause_path(cn, mm.group(1).split('.')[1:])), b)
         ns = None
         if goal.endswith('-requires') or re.search(r'-requires-\d+$', goal):
             lab = re.sub(r'-requires(-\d+)?$', '', goal)
