@@ -33,42 +33,42 @@ pub overflow_add-next : goal.overflow_add-next
 overflow_add-next c =
     let w =
     within c.args.n (length c.args.starts.now) c.loop-k.k c.loop-k.at c.requires.n_bound.0 c.requires.n_bound.1 c.loop-k.invariant.0
-    c.loop-k-test.true in
+    (omega (arith, c.loop-k-test.true)) in
     omega (arith, w)
 
 pub overflow_add-over : goal.overflow_add-over
 overflow_add-over c =
     let w =
     within c.args.n (length c.args.starts.now) c.loop-k.k c.loop-k.at c.requires.n_bound.0 c.requires.n_bound.1 c.loop-k.invariant.0
-    c.loop-k-test.true in
+    (omega (arith, c.loop-k-test.true)) in
     omega (arith, w)
 
 pub offset_bounds-ends-at : goal.offset_bounds-ends-at
 offset_bounds-ends-at c =
     let w =
     within c.args.n (length c.args.starts.now) c.loop-k.k c.loop-k.at c.requires.n_bound.0 c.requires.n_bound.1 c.loop-k.invariant.0
-    c.loop-k-test.true in
+    (omega (arith, c.loop-k-test.true)) in
     omega (arith, w)
 
 pub slice_bounds-clear_of-end : goal.slice_bounds-clear_of-end
 slice_bounds-clear_of-end c =
     let w =
     within c.args.n (length c.args.starts.now) c.loop-k.k c.loop-k.at c.requires.n_bound.0 c.requires.n_bound.1 c.loop-k.invariant.0
-    c.loop-k-test.true in
+    (omega (arith, c.loop-k-test.true)) in
     omega (arith, w, c.requires.begins_len.1)
 
 pub offset_bounds-begins-next : goal.offset_bounds-begins-next
 offset_bounds-begins-next c =
     let w =
     within c.args.n (length c.args.starts.now) c.loop-k.k c.loop-k.at c.requires.n_bound.0 c.requires.n_bound.1 c.loop-k.invariant.0
-    c.loop-k-test.true in
+    (omega (arith, c.loop-k-test.true)) in
     omega (arith, w)
 
 pub slice_bounds-clear_of-end-in-loop-k : goal.slice_bounds-clear_of-end-in-loop-k
 slice_bounds-clear_of-end-in-loop-k c =
     let w =
     within c.args.n (length c.args.starts.now) c.loop-k.k c.loop-k.at c.requires.n_bound.0 c.requires.n_bound.1 c.loop-k.invariant.0
-    c.loop-k-test.true in
+    (omega (arith, c.loop-k-test.true)) in
     omega (arith, w, c.requires.begins_len.0)
 
 pub returns-then-not-clear_of : goal.returns-then-not-clear_of
