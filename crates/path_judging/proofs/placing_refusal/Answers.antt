@@ -1,10 +1,9 @@
--- `placing_refusal`: the rules in checking order. Assumes nothing.
+-- `placing_refusal`: the rules in checking order.
 use Prim.Native.Nat.{ℕ, ◌≤◌}
 use mathlib.Core.Bool.{true, false}
 use mathlib.Core.List.{[], ◌∷◌}
 use mathlib.Core.Path.{◌≡◌, sym, ap, ◌∙◌}
 use native.Mathlib.Omega.{arith}
-use borrow.Author.Rules.{rules}
 use Rattle.rules.specs.Count.{◌and◌}
 use Rattle.rules.specs.Hold.{Hold}
 use Rattle.rules.specs.Refusal.{rule, refusal}
@@ -12,8 +11,8 @@ use Rattle.rules.specs.Path.{PlacedRows, rows_rule, window_rule, new_hold_rules,
 use Rattle.rules.proofs.Count.{and_both, and_false, within_means}
 use Rattle.rules.proofs.Refusal.{refusal-none, head_broken, head_kept, head_accepted, append-refused, append-kept}
 use Rattle.rules.proofs.Loops.{passed, failed}
-use Rattle.path_judging.proofs.placing_refusal.Statement.{statement}
-use Rattle.path_judging.proofs.placing_refusal.Tie as tie
+use mathlib.Core.Bool.{not}
+use Rattle.path_judging.proofs.placing_refusal.Goals as goal
 
 few_blocks : (h : Hold) {r : ℕ} → r ≡ refusal (new_hold_rules h) → r ≡ 0 → h.blocks ≤ 32
 few_blocks h e z = (within_means 1 32 h.blocks (head_accepted 12 _ _ (omega arith) (sym e ∙ z)).0).1
@@ -37,45 +36,18 @@ module _ (h : Hold) (p : PlacedRows) (low high : ℕ) {r : ℕ} (e : r ≡ refus
     breaks_none : rows_rule h.blocks p ≡ true → window_rule low high ≡ true → 0 ≡ refusal (placing_rules h p low high)
     breaks_none f g = sym (from_16 ∙ head_kept 16 _ _ (and_both f g) ∙ refusal-none)
 
-new-hold-refusal-requires : tie.Need-new-hold-refusal-requires
-new-hold-refusal-requires c κs = search rules
+pub returns-then-number-ne0 : goal.returns-then-number-ne0
+returns-then-number-ne0 c = breaks_12_14 _ _ _ _ c.new_hold_refusal-number.ensures c.if-number-ne0.true
 
-returns : tie.Need-returns
-returns c = breaks_12_14 _ _ _ _ c.before.new-hold-refusal.ensures c.if1.true
+pub returns-then-not-window_kept : goal.returns-then-not-window_kept
+returns-then-not-window_kept c = bad_window _ _ _ _ c.new_hold_refusal-number.ensures c.if-number-ne0.false (failed c.window_kept.ensures (ap not c.if-not-window_kept.true))
 
-window-kept-requires : tie.Need-window-kept-requires
-window-kept-requires c κs = search rules
+pub rows_kept-requires : goal.rows_kept-requires
+rows_kept-requires c = few_blocks _ c.new_hold_refusal-number.ensures c.if-number-ne0.false
 
-returns_2 : tie.Need-returns-2
-returns_2 c =
-    let kept = c.before.before in
-    bad_window _ _ _ _ kept.before.new-hold-refusal.ensures kept.if1.false (failed c.before.window-kept.ensures c.if2.true)
+pub returns-then-not-rows_kept : goal.returns-then-not-rows_kept
+returns-then-not-rows_kept c = bad_rows _ _ _ _ c.new_hold_refusal-number.ensures c.if-number-ne0.false (failed c.rows_kept.ensures (ap not c.if-not-rows_kept.true))
 
-rows-kept-requires : tie.Need-rows-kept-requires
-rows-kept-requires c κs =
-    let kept = c.before.before in
-    few_blocks _ kept.before.new-hold-refusal.ensures kept.if1.false
-
-returns-3 : tie.Need-returns-3
-returns-3 c =
-    let kept = c.before.before.before.before in
-    bad_rows _ _ _ _ kept.before.new-hold-refusal.ensures kept.if1.false (failed c.before.rows-kept.ensures c.if3.true)
-
-returns-4 : tie.Need-returns-4
-returns-4 c =
-    let window = c.before.before in
-    let kept = window.before.before in
-    breaks_none _ _ _ _ kept.before.new-hold-refusal.ensures kept.if1.false (passed c.before.rows-kept.ensures c.if3.false)
-    (passed window.before.window-kept.ensures window.if2.false)
-
-pub placing_refusal_spec : {M : Type 1} → statement M
-placing_refusal_spec =
-    tie.close
-    (tie.spec
-    new-hold-refusal-requires
-    returns
-    window-kept-requires
-    returns_2
-    rows-kept-requires
-    returns-3
-    returns-4)
+pub returns : goal.returns
+returns c = breaks_none _ _ _ _ c.new_hold_refusal-number.ensures c.if-number-ne0.false (passed c.rows_kept.ensures (ap not c.if-not-rows_kept.false))
+    (passed c.window_kept.ensures (ap not c.if-not-window_kept.false))

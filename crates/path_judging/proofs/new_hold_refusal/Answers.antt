@@ -1,8 +1,7 @@
--- `new_hold_refusal`: a fresh sheet keeps 12 by its block count alone, and 13. Assumes nothing.
+-- `new_hold_refusal`: a fresh sheet keeps 12 by its block count alone, and 13.
 use Prim.Native.Nat.{ℕ}
 use mathlib.Core.List.{[], ◌∷◌}
 use mathlib.Core.Path.{◌≡◌, refl, sym, ◌∙◌}
-use borrow.Author.Rules.{rules}
 use Rattle.rules.specs.Hold.{Hold}
 use Rattle.rules.specs.Sheet.{fresh}
 use Rattle.rules.specs.Refusal.{rule, refusal, count_rule, sheet_rule, room_rule, hold_rule, adding_rules}
@@ -10,8 +9,7 @@ use Rattle.rules.specs.Path.{new_hold_rules}
 use Rattle.rules.proofs.Count.{same_test, within_means, within_holds}
 use Rattle.rules.proofs.Refusal.{refusal_cons, head_kept}
 use Rattle.rules.proofs.Sheet.{rule_12, sound_fresh}
-use Rattle.path_judging.proofs.new_hold_refusal.Statement.{statement}
-use Rattle.path_judging.proofs.new_hold_refusal.Tie as tie
+use Rattle.path_judging.proofs.new_hold_refusal.Goals as goal
 
 -- a fresh sheet keeps 12 by its block count alone
 fresh-rule : (n : ℕ) → sheet_rule (fresh n) ≡ count_rule n
@@ -27,12 +25,6 @@ as_added h =
     ∙ rw (fresh-rule h.blocks, head_kept 13 (room_rule 0) (rule 14 (hold_rule h.blocks h) ∷ []) refl)
     (sym (refusal_cons 12 (count_rule h.blocks) (rule 14 (hold_rule h.blocks h) ∷ [])))
 
-adding-refusal-requires : tie.Need-adding-refusal-requires
-adding-refusal-requires c κs = search rules
-
-returns : tie.Need-returns
+pub returns : goal.returns
 unfolding fresh
-returns c = c.adding-refusal.ensures ∙ as_added _
-
-pub new_hold_refusal_spec : {M : Type 1} → statement M
-new_hold_refusal_spec = tie.close (tie.spec adding-refusal-requires returns)
+returns c = c.adding_refusal.ensures ∙ as_added _
