@@ -15,7 +15,8 @@ use Rattle.diagram.proofs.diagram.Goals as goal
 pub returns-then-opened-ne0 : goal.returns-then-opened-ne0
 returns-then-opened-ne0 c = let a = c.args in
     let n = train_refuses a.file.now a.k (length a.bytes.now) (train-number _ _ c.open_train-opened.ensures) c.if-opened-ne0.true in
-    refused a.file.now a.k a.bytes.now n c.if-opened-ne0.true
+    let r = refused a.file.now a.k a.bytes.now n c.if-opened-ne0.true in
+    record { answer = r.0; bytes = r.1.0; figures = r.1.1 }
 
 pub returns-then-bytes-count : goal.returns-then-bytes-count
 returns-then-bytes-count c =
@@ -24,7 +25,8 @@ returns-then-bytes-count c =
     let points : c.size-count.result ≡ (line_of c.args.file.now).points = (c.size-count.ensures.0 ∙ ap (λ (l : Line). l.points) line_is) in
     let a = c.args in
     let n = few_bytes a.file.now a.k asked (length a.bytes.now) (omega (arith, points, c.if-bytes-count.true)) in
-    refused a.file.now a.k a.bytes.now n (λ z. omega arith)
+    let r = refused a.file.now a.k a.bytes.now n (λ z. omega arith) in
+    record { answer = r.0; bytes = r.1.0; figures = r.1.1 }
 
 pub write_diagram-requires : goal.write_diagram-requires
 write_diagram-requires c =
@@ -42,5 +44,5 @@ returns c =
     let points : c.size-count.result ≡ (line_of c.args.file.now).points = (c.size-count.ensures.0 ∙ ap (λ (l : Line). l.points) line_is) in
     let a = c.args in
     let n = enough-bytes a.file.now a.k asked (length a.bytes.now) (omega (arith, points, c.if-bytes-count.false)) in
-    written-whole a.file.now a.k asked a.bytes.now n points
-    (rw (line_is, train_is) at c.write_diagram.ensures)
+    let r = written-whole a.file.now a.k asked a.bytes.now n points (rw (line_is, train_is) at c.write_diagram.ensures) in
+    record { answer = r.0; bytes = r.1.0; figures = r.1.1 }
