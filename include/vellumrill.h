@@ -1,6 +1,6 @@
 /* Vellumrill: running times, block holds and earliest starts for lines under ERTMS Level 2.
  *
- * The calls of target/staticlib/libvellumrill.a, which `rt staticlib vellumrill` builds for x86-64 Linux. docs/RULES.md
+ * The calls of target/staticlib/libvellumrill.a, which `tools/staticlib` builds for x86-64 Linux. docs/RULES.md
  * has the rules; each call is proved against them (crates/vellumrill/src/lib.rt has the contracts), and docs/CALLS.md
  * tells more of each.
  *

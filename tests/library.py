@@ -1,6 +1,6 @@
 """The library for C, called from Python, with checks of all memory that is lent to it.
 
-The shared object is linked from the archive that `rt staticlib vellumrill` writes; an archive that is older than its sources is not
+The shared object is linked from the archive that `tools/staticlib` writes; an archive that is older than its sources is not
 taken. Every lent buffer is filled with a pattern first and has guard entries behind it; neither a dot nor the highest byte of a
 squared speed or a time is that of the pattern.
 """
@@ -27,7 +27,7 @@ class Touched(Exception):
 def need_archive():
     """Ends the test where the archive is not there, or is older than something that it is made from."""
     if out_of_date(ARCHIVE, LIBRARY.crate):
-        sys.exit("%s is not there or older than its sources: run `rt staticlib vellumrill`" % ARCHIVE.relative_to(TOP_FOLDER))
+        sys.exit("%s is not there or older than its sources: run `tools/staticlib`" % ARCHIVE.relative_to(TOP_FOLDER))
 
 
 def need_shared_object():

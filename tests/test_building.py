@@ -18,12 +18,14 @@ from processes import SECONDS, wait_until, with_interrupts
 import building
 
 STANDIN_RT = """\
-import subprocess, sys, time
+import os, subprocess, sys, time
 from pathlib import Path
 
+crate = Path.cwd().name
+os.chdir("../..")
 mode = Path("rt.mode").read_text()
 with open("rt.calls", "a") as calls:
-    calls.write(" ".join(sys.argv[1:]) + "\\n")
+    calls.write(" ".join([*sys.argv[1:], crate]) + "\\n")
 if mode == "wait":
     while not Path("rt.go").exists():
         time.sleep(0.01)
@@ -34,9 +36,10 @@ if mode == "change":
     time.sleep(0.1)
     Path("crates/low/src/lib.rt").touch()
 if mode not in ("leave", "fail"):
-    Path("target/bin").mkdir(parents=True, exist_ok=True)
-    Path("target/bin/sheet_program").write_text("#!/bin/sh\\nprintf 'train start run block\\\\n1 0 5 0\\\\n'\\n")
-    Path("target/bin/sheet_program").chmod(0o755)
+    made = Path("crates", crate, "out", "sheet_program")
+    made.parent.mkdir(exist_ok=True)
+    made.write_text("#!/bin/sh\\nprintf 'train start run block\\\\n1 0 5 0\\\\n'\\n")
+    made.chmod(0o755)
 print(Path("rt.failed" if mode.startswith("fail") else "rt.proved").read_text(), end="", flush=True)
 sys.exit(1 if mode.startswith("fail") else 0)
 """
@@ -45,12 +48,13 @@ sys.exit(1 if mode.startswith("fail") else 0)
 class Tree:
     """A copy of the commands with crates of its own and a stand-in for rt, which does what the file rt.mode says."""
     ANSWER = b"train start run block\n1 0 5 0\n"
-    PROVED = ("fn low::one: proved\nrt: low proved (unchanged since it was last proved)\nrt: other proved (2 s)\n"
-              "rt: middle proved (3 s)\nrt: middle proved (3 s)\nrt: sheet_program proved (10 s)\n"
-              "rt: sheet_program ran, and wrote what its file 'stdout' has (0 s)\nrt: ok, 3 crates proved\n")
-    FAILED = ("rt: low proved (3 s)\ncrates/middle/src/lib.rt:3:7: error[x]: wrong\nrt: middle NOT PROVED (exit 1, 0 s)\n"
-              "rt: FAILED: middle\n")
-    CRATES = "# a comment: none\nlow:\nother: low\nmiddle: low   # more\nsheet_program: middle io libc\n"
+    PROVED = ("fn low::one: proved\nlibrary std: modules loaded=2 checked=0\ncrate low: modules loaded=9 checked=0\nlogic=proved functions=1\n"
+              "crate other: modules loaded=1 checked=3\nlogic=proved functions=2\ncrate middle: modules loaded=1 checked=3\n"
+              "logic=proved functions=3\ncrate middle: modules loaded=4 checked=0\nlogic=proved functions=3\n"
+              "crate sheet_program: modules loaded=1 checked=3\nlogic=proved functions=1\nrefused 1\n")
+    FAILED = ("crate low: modules loaded=9 checked=0\nlogic=proved functions=1\nsrc/lib.rt:3:7: error[x]: wrong\n"
+              "fn middle::three: not proved\nlogic=not-proved\nrt: the library middle did not build, so nothing above it was checked\n")
+    CRATES = "# a comment: none\nlow:\nother: low\nmiddle: low   # more\nsheet_program: middle\n"
     FILES = ("crates/low/src/lib.rt", "crates/other/src/lib.rt", "crates/middle/src/lib.rt", "crates/middle/src/inner/deep.rt",
              "crates/middle/must-fail/wrong.edit", "crates/sheet_program/src/main.rt", "crates/sheet_program/stdin")
 
@@ -119,13 +123,13 @@ class InTree(unittest.TestCase):
     def check_built(self, times):
         """The next run builds the program, so that it was built so many times in all; the one after it does not."""
         self.check_answer(self.run_sheet())
-        self.assertEqual(self.tree.calls(), times * ["check sheet_program"])
+        self.assertEqual(self.tree.calls(), times * ["run sheet_program"])
         self.check_not_built(times)
 
     def check_not_built(self, times):
         done = self.run_sheet()
         self.check_answer(done)
-        self.assertEqual((done.stderr, self.tree.calls()), (b"", times * ["check sheet_program"]))
+        self.assertEqual((done.stderr, self.tree.calls()), (b"", times * ["run sheet_program"]))
 
 
 class Building(InTree):
@@ -135,9 +139,9 @@ class Building(InTree):
         self.assertEqual(done.stderr.decode().splitlines(), [
             "sheet: target/bin/sheet_program is not there yet, so it is proved and built now; the first time this takes some minutes,"
             " once. target/build-sheet_program.log has all that rt prints",
-            "sheet:  1 of 3: low proved (unchanged since it was last proved)",
-            "sheet:  2 of 3: middle proved (3 s)",
-            "sheet:  3 of 3: sheet_program proved (10 s)"])
+            "sheet:  1 of 3: low proved",
+            "sheet:  2 of 3: middle proved",
+            "sheet:  3 of 3: sheet_program proved"])
         self.assertEqual((self.tree.top / "target" / "build-sheet_program.log").read_text(), Tree.PROVED)
         self.check_not_built(1)
         self.assertEqual(list(self.tree.top.rglob("__pycache__")), [])
@@ -169,14 +173,10 @@ class Building(InTree):
             self.tree.touch(name)
         self.check_not_built(1)
 
-    def test_missing_program_with_its_stamp(self):
+    def test_missing_program(self):
         self.check_built(1)
-        stamp = self.tree.top / "target" / "stamp" / "sheet_program"
-        stamp.parent.mkdir()
-        stamp.write_text("as rt left it")
         (self.tree.top / "target" / "bin" / "sheet_program").unlink()
         self.check_built(2)
-        self.assertFalse(stamp.exists())
 
     def test_program_that_rt_leaves_as_it_is(self):
         self.check_built(1)
@@ -199,8 +199,8 @@ class Building(InTree):
             self.assertEqual((done.returncode, done.stdout), (2, b""))
             for words in ("sheet: target/bin/sheet_program was not built", "ended with status 1",
                           "from target/build-sheet_program.log:\n",
-                          "\n  crates/middle/src/lib.rt:3:7: error[x]: wrong\n", "\n  rt: middle NOT PROVED (exit 1, 0 s)\n",
-                          "\n  rt: FAILED: middle\n"):
+                          "\n  src/lib.rt:3:7: error[x]: wrong\n", "\n  fn middle::three: not proved\n",
+                          "\n  rt: the library middle did not build, so nothing above it was checked\n"):
                 self.assertIn(words, done.stderr.decode())
         self.tree.set_mode("")
         self.check_built(4)
@@ -266,7 +266,7 @@ class Building(InTree):
         for running in (first, *others):
             out, _ = running.communicate(timeout=SECONDS)
             self.assertEqual((running.returncode, out), (0, Tree.ANSWER))
-        self.assertEqual(self.tree.calls(), ["check sheet_program"])
+        self.assertEqual(self.tree.calls(), ["run sheet_program"])
 
     def check_ended(self, by, status):
         """The signal ends the command and rt with it; the next command builds."""

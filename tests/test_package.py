@@ -378,7 +378,7 @@ class Library(unittest.TestCase):
     def test_sharedlib_tells_of_an_archive_that_is_not_whole(self):
         done, made = self.sharedlib(None, b"")
         self.assertEqual((done.returncode, done.stdout), (2, ""))
-        self.assertIn("libvellumrill.a is not whole, `rt staticlib vellumrill` makes it anew", done.stderr)
+        self.assertIn("libvellumrill.a is not whole, `tools/staticlib` makes it anew", done.stderr)
         self.assertEqual(list(made.parent.glob("libvellumrill.*")), [])
 
     def test_sharedlib(self):

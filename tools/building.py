@@ -17,18 +17,27 @@ from vellumrill.messages import Failure, end_of, reason
 
 TOP = Path(__file__).resolve().parent.parent
 TARGET = TOP / "target"
-PROVED = re.compile(r"rt: (\w+) proved \((.*)\)")
+CHECKED = re.compile(r"crate (\w+): modules ")
 SHOWN = 6                               # lines of the log that a failed build shows
 
 
 class Product(NamedTuple):
     path: Path
     crate: str
-    words: tuple                        # what rt is called with
+    word: str                           # what rt is told in the crate's folder
+
+    @property
+    def folder(self):
+        return TOP / "crates" / self.crate
+
+    @property
+    def made(self):
+        """Where rt leaves it."""
+        return self.folder / "out" / self.path.name
 
 
-PROGRAM = Product(TARGET / "bin" / "sheet_program", "sheet_program", ("check", "sheet_program"))
-LIBRARY = Product(TARGET / "staticlib" / "libvellumrill.a", "vellumrill", ("staticlib", "vellumrill"))
+PROGRAM = Product(TARGET / "bin" / "sheet_program", "sheet_program", "run")
+LIBRARY = Product(TARGET / "staticlib" / "libvellumrill.a", "vellumrill", "lib")
 
 
 # ------------------------------------------------------------ sources
@@ -59,8 +68,7 @@ def sources(crate):
     yield TOP / "crates.txt"
     for name in sorted(closure(crate)):
         for folder, inner, files in os.walk(TOP / "crates" / name):
-            if "must-fail" in inner:
-                inner.remove("must-fail")
+            inner[:] = [name for name in inner if name not in ("must-fail", "out")]
             yield Path(folder)
             yield from (Path(folder, file) for file in files)
 
@@ -97,6 +105,8 @@ def why(product):
         return f"{shown(product.path)} is not there yet"
     if changed(product.path) == 0:
         return f"{shown(product.path)} is of a build that did not succeed"
+    if not out_of_date(product.path, product.crate):
+        return f"{shown(product.path)} is to be made anew"
     return f"{shown(product.path)} is older than {shown(newest_source(product.crate))}"
 
 
@@ -118,22 +128,24 @@ def only_builder(say):
 
 
 def follow(output, log, crates, say):
-    """Copies what rt prints to the log, and says which crates are proved."""
-    proved = set()
+    """Copies what rt prints to the log, and says which crates are proved. rt names a crate, and then tells that it is proved."""
+    proved, named = set(), None
     for line in output:
         log.write(line)
         log.flush()
-        found = PROVED.match(line.decode(errors="replace"))
-        if found and found[1] in crates - proved:
-            proved.add(found[1])
-            say(f"{len(proved):2} of {len(crates)}: {found[1]} proved ({found[2]})")
+        line = line.decode(errors="replace")
+        if found := CHECKED.match(line):
+            named = found[1]
+        elif line.startswith("logic=proved") and named in crates - proved:
+            proved.add(named)
+            say(f"{len(proved):2} of {len(crates)}: {named} proved")
 
 
 def run_rt(rt, product, lock, say):
     """The exit status of rt. It is ended together with this command."""
     crates = closure(product.crate)
     with open(log_of(product.crate), "wb") as log, subprocess.Popen(
-            [rt, *product.words], cwd=TOP, stdin=subprocess.DEVNULL, stdout=subprocess.PIPE,
+            [rt, product.word], cwd=product.folder, stdin=subprocess.DEVNULL, stdout=subprocess.PIPE,
             stderr=subprocess.STDOUT, process_group=0, pass_fds=[lock.fileno()]) as running:
         try:
             follow(running.stdout, log, crates, say)
@@ -146,7 +158,7 @@ def run_rt(rt, product, lock, say):
 def telling_lines(log):
     """The last lines of a failed build that tell what went wrong."""
     lines = [line for line in log.read_text(errors="replace").splitlines() if line.strip()]
-    telling = [line for line in lines if re.search(r"error|fail|NOT PROVED", line, re.IGNORECASE)]
+    telling = [line for line in lines if re.search(r"error|fail|not proved|did not build", line, re.IGNORECASE)]
     return "".join(f"\n  {line[:300]}" for line in (telling or lines)[-SHOWN:])
 
 
@@ -157,35 +169,61 @@ def make_old(product):
 
 
 def check_built(product, status):
-    if status or not product.path.exists():
+    if status or not product.made.exists():
         log = log_of(product.crate)
-        raise Failure(f"{shown(product.path)} was not built: `rt {' '.join(product.words)}` {end_of(status)};"
+        raise Failure(f"{shown(product.path)} was not built: `rt {product.word}` in {shown(product.folder)} {end_of(status)};"
                       f" from {shown(log)}:{telling_lines(log)}")
+
+
+def take(product):
+    """Puts what rt made into its place. A command that runs meanwhile has the old one or the new one whole."""
+    beside = product.path.with_name(product.path.name + ".new")
+    product.path.parent.mkdir(parents=True, exist_ok=True)
+    shutil.copy(product.made, beside)
+    os.replace(beside, product.path)
+
+
+def make_folders(product):
+    """rt writes into these folders; were they made during the build, each crate's own folder would be newer than the product."""
+    for name in closure(product.crate):
+        (TOP / "crates" / name / "out").mkdir(exist_ok=True)
 
 
 def build(product, rt, lock, say):
     log = log_of(product.crate)
     say(f"{why(product)}, so it is proved and built now; the first time this takes some minutes, once."
         f" {shown(log)} has all that rt prints")
-    if not product.path.exists():       # rt takes a crate with its stamp as built
-        (TARGET / "stamp" / product.crate).unlink(missing_ok=True)
+    make_folders(product)
     log.touch()
     began = changed(log)
     try:
         check_built(product, run_rt(rt, product, lock, say))
+        take(product)
     except BaseException:
         make_old(product)
         raise
     os.utime(product.path, ns=(began, began))       # what changes during the build is newer
 
 
+def rt_for(product):
+    rt = shutil.which("rt")
+    if rt is None:
+        raise Failure(f"{why(product)}, and building it needs the Rattle toolchain: no command `rt` is on the PATH")
+    return rt
+
+
 def bring_up_to_date(product, say):
     """Builds the product where it is out of date."""
     if not out_of_date(product.path, product.crate):
         return
-    rt = shutil.which("rt")
-    if rt is None:
-        raise Failure(f"{why(product)}, and building it needs the Rattle toolchain: no command `rt` is on the PATH")
+    rt = rt_for(product)
     with only_builder(say) as lock:
         if out_of_date(product.path, product.crate):
             build(product, rt, lock, say)
+
+
+def build_anew(product, say):
+    """Builds the product whatever its date."""
+    rt = rt_for(product)
+    with only_builder(say) as lock:
+        build(product, rt, lock, say)

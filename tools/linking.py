@@ -28,7 +28,7 @@ def check_linked(path):
     try:
         checked(path)
     except NoLibrary as error:
-        raise Failure(f"{shown(LIBRARY.path)} is not whole, `rt staticlib vellumrill` makes it anew: {error}") from None
+        raise Failure(f"{shown(LIBRARY.path)} is not whole, `tools/staticlib` makes it anew: {error}") from None
 
 
 def link():

@@ -7,7 +7,7 @@ from vellumrill.output import write_out
 from vellumrill.running import parser_of, run
 
 NOTES = """\
-The library is proved and built first, by `rt staticlib vellumrill`, where it is
+The library is proved and built first, by `tools/staticlib`, where it is
 older than its sources; the first time this takes some minutes. gcc links it.
 
 exit status: 0 the shared object is there and up to date; 2 failed.

@@ -1,6 +1,6 @@
 /* Prints the speed-distance diagram of a train, a line for each point: the position in m, the speed in km/h, the arrival in
  * seconds after the start, and the dot: full where the speed is whole, open where it was rounded down. Build it from the top
- * of the repository, after `rt staticlib vellumrill`:
+ * of the repository, after `tools/staticlib`:
  *
  *     gcc -std=c11 -O2 -Iinclude examples/c/diagram.c target/staticlib/libvellumrill.a -o target/diagram_c
  *     tools/linefile pack examples/valley.txt target/valley.line

@@ -1,6 +1,6 @@
 /* Asks for a path for one more train between those already sold. The first trains of a line file are sold, with the starts given,
  * in seconds; one more like train TRAIN is to start from FROM to TO. Prints the least start that has a place, in microseconds, and how
- * many of the sold trains are before it. Build it from the top of the repository, after `rt staticlib vellumrill`:
+ * many of the sold trains are before it. Build it from the top of the repository, after `tools/staticlib`:
  *
  *     gcc -std=c11 -O2 -Iinclude examples/c/path.c target/staticlib/libvellumrill.a -o target/path_c
  *     tools/linefile pack examples/valley.txt target/valley.line

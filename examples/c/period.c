@@ -1,5 +1,5 @@
 /* Prints the hour pattern of a line file: the shortest period with which its sheet can be repeated, in microseconds, and its
- * percentage of an hour. Build it from the top of the repository, after `rt staticlib vellumrill`:
+ * percentage of an hour. Build it from the top of the repository, after `tools/staticlib`:
  *
  *     gcc -std=c11 -O2 -Iinclude examples/c/period.c target/staticlib/libvellumrill.a -o target/period_c
  *     tools/linefile pack examples/valley.txt target/valley.line

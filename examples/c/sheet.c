@@ -1,4 +1,4 @@
-/* Prints the sheet of a line file. Build it from the top of the repository, after `rt staticlib vellumrill`:
+/* Prints the sheet of a line file. Build it from the top of the repository, after `tools/staticlib`:
  *
  *     gcc -std=c11 -O2 -Iinclude examples/c/sheet.c target/staticlib/libvellumrill.a -o target/sheet_c
  *     tools/linefile pack examples/valley.txt target/valley.line

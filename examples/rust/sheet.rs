@@ -1,4 +1,4 @@
-//! Prints the sheet of a line file. Build it from the top of the repository, after `rt staticlib vellumrill`:
+//! Prints the sheet of a line file. Build it from the top of the repository, after `tools/staticlib`:
 //!
 //!     rustc -O -L target/staticlib -l static=vellumrill examples/rust/sheet.rs -o target/sheet_rust
 //!     tools/linefile pack examples/valley.txt target/valley.line
