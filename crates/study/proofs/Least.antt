@@ -8,7 +8,7 @@ use lib.ListN.{length, get_or}
 use lib.Seq.{ext_get_or}
 use Rattle.rules.specs.Calls.{Answer, accepted, refused, file_refusal}
 use Rattle.rules.specs.Count.{entry}
-use Rattle.rules.specs.Demand.{answers, starts, trains, refusal_of, LeastStarts}
+use Rattle.rules.specs.Demand.{starts, trains, refusal_of, LeastStarts}
 use Rattle.rules.specs.File.{AreBytes, train_count}
 use Rattle.rules.specs.Hold.{Hold}
 use Rattle.rules.specs.Line.{line_of}

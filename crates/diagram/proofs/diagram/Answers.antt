@@ -9,7 +9,6 @@ use Rattle.rules.proofs.Accepted.{on_kept, train-admitted}
 use Rattle.line.proofs.Opening.{train-number, train_asked, opened_line, opened-train}
 use Rattle.diagram.proofs.Answers.{refused, written-whole}
 use Rattle.diagram.proofs.Numbers.{train_refuses, few_bytes, enough-bytes}
-use borrow.Author.Rules.{rules}
 use Rattle.diagram.proofs.diagram.Goals as goal
 
 pub returns-then-opened-ne0 : goal.returns-then-opened-ne0

@@ -6,7 +6,6 @@ use Rattle.rules.proofs.Accepted.{on_admitted}
 use Rattle.values.specs.Values.{as_line, as_train}
 use Rattle.values.proofs.Parallel.{decoded_parallel}
 use Rattle.diagram.proofs.Rows.{speeds_front, times_front, times_small, points_run}
-use borrow.Author.Rules.{rules}
 use Rattle.diagram.proofs.write_diagram.Goals as goal
 
 pub write_points-requires : goal.write_points-requires

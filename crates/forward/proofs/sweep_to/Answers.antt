@@ -6,7 +6,6 @@ use Rattle.rules.proofs.Accepted.{on_admitted}
 use Rattle.values.specs.Values.{as_line, as_train}
 use Rattle.values.proofs.Parallel.{decoded_parallel}
 use Rattle.forward.proofs.Answers.{entries_most, not_swept, swept, greatest}
-use borrow.Author.Rules.{rules}
 use Rattle.forward.proofs.sweep_to.Goals as goal
 
 pub returns-then-number-ne0 : goal.returns-then-number-ne0

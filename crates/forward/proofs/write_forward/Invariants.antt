@@ -1,23 +1,12 @@
-use Prim.Native.Nat.{◌-◌, ◌≤◌, ◌<◌}
-use mathlib.Core.Logic.{inl, inr, ⊎_elim}
-use mathlib.Core.Path.{◌≡◌, refl, sym}
-use native.Mathlib.Nat.{eq-or-lt_of_le, le_trans}
-use native.Mathlib.Omega.{arith}
-use Rattle.rules.specs.Count.{entry}
+use Prim.Native.Nat.{◌-◌, ◌≤◌}
 use Rattle.rules.specs.Line.{Line}
 use Rattle.rules.specs.Run.{forward}
-use Rattle.rules.proofs.Count.{length-row}
-use Rattle.rules.proofs.Fill.{Filled, fill_none, fill_join}
-use Rattle.rules.proofs.Written.{fill_written}
-use Rattle.rules.proofs.Step.{squared_mono, last_top-most}
-use Rattle.values.specs.Values.{as_line, as_train}
+use Rattle.rules.proofs.Fill.{Filled}
+use Rattle.values.specs.Values.{as_train}
 use Rattle.stops.specs.Stops.{Behind}
-use Rattle.stops.proofs.Passing.{behind-first}
-use Rattle.caps.proofs.Walk.{Known, Nearing, course_is, known_at, nearing_first, nearing_next, known_lowest, known_top}
+use Rattle.caps.proofs.Walk.{Nearing}
 use Rattle.forward.specs.Stretch.{Before}
-use Rattle.forward.proofs.Traction.{count-least, count_most, bands_bounded, traction_is, last-most}
-use Rattle.forward.proofs.Sweeping.{OnCourse, before-start}
-use borrow.Author.Rules.{rules}
+use Rattle.forward.proofs.Sweeping.{OnCourse}
 use Rattle.forward.proofs.write_forward.Given as goal
 
 abbrev pub invariant-loop-i : goal.invariant-loop-i

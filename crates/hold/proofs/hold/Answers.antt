@@ -2,7 +2,6 @@ use mathlib.Core.Path.{refl}
 use Rattle.line.proofs.Opening.{train-number, train_asked, opened_line, opened-train}
 use Rattle.run.proofs.Answers.{not_run, as_run}
 use Rattle.hold.proofs.Answers.{file_refused, file_held}
-use borrow.Author.Rules.{rules}
 use Rattle.hold.proofs.hold.Goals as goal
 
 pub returns-then-opened-ne0 : goal.returns-then-opened-ne0

@@ -2,7 +2,6 @@ use Rattle.hold.proofs.Answers.{held-refused, held-accepted, run_done}
 use Rattle.values.proofs.Parallel.{decoded_parallel}
 use mathlib.Core.Path.{refl}
 use native.Mathlib.Omega.{arith}
-use borrow.Author.Rules.{rules}
 use Rattle.hold.proofs.hold_train.Goals as goal
 
 pub returns-then-number-ne0 : goal.returns-then-number-ne0

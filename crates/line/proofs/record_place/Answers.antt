@@ -1,6 +1,5 @@
 use native.Mathlib.Omega.{arith}
 use Rattle.line.proofs.Opening.{place-refused, place-within, place_found}
-use borrow.Author.Rules.{rules}
 use Rattle.line.proofs.record_place.Goals as goal
 
 pub returns-then-found-ne0 : goal.returns-then-found-ne0

@@ -2,7 +2,6 @@ use Prim.Native.Nat.{◌+◌, ◌-◌}
 use mathlib.Core.Path.{◌≡◌}
 use native.Mathlib.Omega.{arith}
 use Rattle.line.proofs.Opening.{part_handed, part_within}
-use borrow.Author.Rules.{rules}
 use Rattle.line.proofs.train_record.Goals as goal
 
 pub overflow_add-end : goal.overflow_add-end

@@ -1,6 +1,5 @@
 use Rattle.line.proofs.Opening.{train-number, train_asked, opened_line, opened-train}
 use Rattle.run.proofs.Answers.{not_run, as_run, as_fastest}
-use borrow.Author.Rules.{rules}
 use Rattle.run.proofs.run.Goals as goal
 
 pub returns-then-opened-ne0 : goal.returns-then-opened-ne0

@@ -14,7 +14,6 @@ use Rattle.forward.proofs.Answers.{not_swept, whole_line}
 use Rattle.run.proofs.Answers.{refused_on, short_buffers, short_refused, long_enough, buffers_kept, buffers_written, first-points}
 use Rattle.run.proofs.Compose.{forward_entries, run_over}
 use native.Mathlib.Omega.{arith}
-use borrow.Author.Rules.{rules}
 use Rattle.run.proofs.run_train.Goals as goal
 
 pub returns-then-least-size : goal.returns-then-least-size

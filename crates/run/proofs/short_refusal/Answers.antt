@@ -1,7 +1,6 @@
 use mathlib.Core.Path.{sym, ◌∙◌}
 use mathlib.Core.Bool.{false}
 use Rattle.run.proofs.Answers.{rules_first, room_then}
-use borrow.Author.Rules.{rules}
 use Rattle.run.proofs.short_refusal.Goals as goal
 
 pub returns-then-number-ne0 : goal.returns-then-number-ne0

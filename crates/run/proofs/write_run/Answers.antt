@@ -1,7 +1,5 @@
-use Prim.Native.Nat.{ℕ}
 use Rattle.values.specs.Values.{as_line, as_train}
 use mathlib.Core.Path.{◌≡◌}
-use mathlib.Core.List.{List}
 use Rattle.rules.specs.Calls.{written}
 use Rattle.rules.specs.Run.{braking_loss, run_row}
 use Rattle.rules.proofs.Run.{length_run}
@@ -9,7 +7,6 @@ use Rattle.rules.proofs.Step.{loss_most}
 use Rattle.rules.proofs.Written.{written_long, written_entries}
 use Rattle.run.proofs.Compose.{forward-most, sweeps_run}
 use native.Mathlib.Omega.{arith}
-use borrow.Author.Rules.{rules}
 use Rattle.run.proofs.write_run.Goals as goal
 
 pub write_backward-requires : goal.write_backward-requires

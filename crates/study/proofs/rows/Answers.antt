@@ -4,7 +4,6 @@ use Rattle.line.proofs.Opening.{file_number, file_accepted, file_trains}
 use Rattle.study.proofs.Least.{least_for_file}
 use Rattle.rules.proofs.Written.{row_taken}
 use Rattle.study.proofs.Numbers.{rows-refused, rows_short, rows_long, refused_by, accepted_with}
-use borrow.Author.Rules.{rules}
 use Rattle.study.proofs.rows.Goals as goal
 
 pub returns-then-opened-ne0 : goal.returns-then-opened-ne0

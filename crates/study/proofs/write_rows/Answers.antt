@@ -1,7 +1,6 @@
 use mathlib.Core.Path.{◌∙◌}
 use Rattle.line.proofs.Opening.{file_number, file_line}
 use Rattle.study.proofs.Through.{points-most}
-use borrow.Author.Rules.{rules}
 use Rattle.study.proofs.write_rows.Goals as goal
 
 pub write_rows_with-requires : goal.write_rows_with-requires

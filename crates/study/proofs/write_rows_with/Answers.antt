@@ -1,21 +1,17 @@
-use Prim.Native.Nat.{◌-◌, ◌<◌}
+use Prim.Native.Nat.{◌<◌}
 use mathlib.Core.Path.{◌≡◌, refl, ap, ◌∙◌}
 use native.Mathlib.Numerals.{add-one}
 use native.Mathlib.Omega.{arith}
-use lib.ListN.{length}
 use Rattle.rules.specs.File.{train_count}
-use Rattle.rules.specs.Text.{start_of, block_of, running_time}
+use Rattle.rules.specs.Text.{start_of, block_of}
 use Rattle.rules.proofs.Accepted.{file_there}
 use Rattle.rules.proofs.File.{part_inside}
-use Rattle.rules.proofs.Fill.{Filled, fill_none, fill_up}
+use Rattle.rules.proofs.Fill.{fill_none, fill_up}
 use Rattle.rules.proofs.Written.{fill_written}
 use Rattle.reading.specs.Decoded.{decoded_line}
 use Rattle.line.proofs.Opening.{file_number, file_trains, file_place, file_line}
-use Rattle.sheet.specs.Values.{as_sheet}
-use Rattle.study.specs.Rows.{start_at, block_at}
-use Rattle.study.proofs.Through.{Through, few_trains, sheet-opened, through_first, next_admitted, next_decodes, next_run, next_answer}
+use Rattle.study.proofs.Through.{few_trains, sheet-opened, through_first, next_admitted, next_decodes, next_run, next_answer}
 use Rattle.study.proofs.Through.{through_next}
-use borrow.Author.Rules.{rules}
 use Rattle.study.proofs.write_rows_with.Goals as goal
 
 pub loop-k-init : goal.loop-k-init

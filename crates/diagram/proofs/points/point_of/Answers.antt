@@ -5,7 +5,6 @@ use lib.Dec.{le→leb}
 use lib.Ieee.{in_float, of_int}
 use Rattle.rules.specs.Diagram.{double, record_of}
 use Rattle.diagram.proofs.Doubles.{double-number}
-use borrow.Author.Rules.{rules}
 use Rattle.diagram.proofs.points.point_of.Goals as goal
 
 pub int_to_float-result-3 : goal.int_to_float-result-3

@@ -1,10 +1,7 @@
-use Prim.Native.Nat.{◌-◌, ◌≤◌}
 use mathlib.Core.Path.{◌≡◌}
 use native.Mathlib.Omega.{arith}
-use lib.Ieee.{binary64, to_bits}
 use Rattle.rules.specs.Diagram.{double_bytes}
-use Rattle.diagram.proofs.Bytes.{Begun, begun-none, begun_next}
-use borrow.Author.Rules.{rules}
+use Rattle.diagram.proofs.Bytes.{begun-none, begun_next}
 use Rattle.diagram.proofs.points.put_double.Goals as goal
 
 pub loop-i-init : goal.loop-i-init

@@ -1,10 +1,6 @@
 use Prim.Native.Nat.{◌-◌, ◌≤◌}
-use mathlib.Core.Path.{◌≡◌}
-use native.Mathlib.Omega.{arith}
 use lib.Ieee.{binary64, to_bits}
-use Rattle.rules.specs.Diagram.{double_bytes}
-use Rattle.diagram.proofs.Bytes.{Begun, begun-none, begun_next}
-use borrow.Author.Rules.{rules}
+use Rattle.diagram.proofs.Bytes.{Begun}
 use Rattle.diagram.proofs.points.put_double.Given as goal
 
 abbrev pub invariant-loop-i : goal.invariant-loop-i

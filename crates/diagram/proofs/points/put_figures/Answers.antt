@@ -1,5 +1,4 @@
 use native.Mathlib.Omega.{arith}
-use borrow.Author.Rules.{rules}
 use Rattle.diagram.specs.Points.{as_point}
 use Rattle.diagram.proofs.Doubles.{written_three}
 use Rattle.diagram.proofs.points.put_figures.Goals as goal

@@ -1,4 +1,3 @@
-use borrow.Author.Rules.{rules}
 use Rattle.diagram.proofs.points.root_after.Goals as goal
 
 pub returns : goal.returns

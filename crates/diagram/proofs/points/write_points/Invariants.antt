@@ -1,7 +1,5 @@
 use Prim.Native.Nat.{◌-◌, ◌≤◌}
-use native.Mathlib.Omega.{arith}
-use Rattle.diagram.proofs.Drawing.{Drawn, drawn-none, drawn_next, drawn_all}
-use borrow.Author.Rules.{rules}
+use Rattle.diagram.proofs.Drawing.{Drawn}
 use Rattle.diagram.proofs.points.write_points.Given as goal
 
 abbrev pub invariant-loop-i : goal.invariant-loop-i

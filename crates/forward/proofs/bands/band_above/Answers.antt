@@ -1,6 +1,4 @@
-use Prim.Native.Nat.{ℕ, ◌-◌, ◌≤◌, ◌<◌}
 use native.Mathlib.Omega.{arith}
-use Rattle.rules.specs.Count.{entry}
 use Rattle.forward.proofs.Traction.{passed_more}
 use borrow.Author.Rules.{rules}
 use Rattle.forward.proofs.bands.band_above.Goals as goal

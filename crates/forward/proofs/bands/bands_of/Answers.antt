@@ -1,11 +1,11 @@
-use Prim.Native.Nat.{ℕ, ◌-◌, ◌≤◌}
+use Prim.Native.Nat.{ℕ}
 use mathlib.Core.Path.{◌≡◌, sym, ap, ◌∙◌}
 use native.Mathlib.Numerals.{add-one}
 use native.Mathlib.Omega.{arith}
 use Rattle.rules.specs.Count.{entry}
 use Rattle.rules.specs.Run.{squared, change}
 use Rattle.rules.proofs.Count.{length-row, entry_row}
-use Rattle.rules.proofs.Fill.{Filled, fill_none, fill_up}
+use Rattle.rules.proofs.Fill.{fill_none, fill_up}
 use Rattle.rules.proofs.Step.{change-most}
 use Rattle.forward.proofs.Traction.{count_most, rate_most, top-most}
 use borrow.Author.Rules.{rules}

@@ -1,14 +1,7 @@
-use Prim.Native.Nat.{ℕ, ◌-◌, ◌≤◌}
-use mathlib.Core.Path.{◌≡◌, sym, ap, ◌∙◌}
-use native.Mathlib.Numerals.{add-one}
-use native.Mathlib.Omega.{arith}
+use Prim.Native.Nat.{◌-◌, ◌≤◌}
 use Rattle.rules.specs.Count.{entry}
 use Rattle.rules.specs.Run.{squared, change}
-use Rattle.rules.proofs.Count.{length-row, entry_row}
-use Rattle.rules.proofs.Fill.{Filled, fill_none, fill_up}
-use Rattle.rules.proofs.Step.{change-most}
-use Rattle.forward.proofs.Traction.{count_most, rate_most, top-most}
-use borrow.Author.Rules.{rules}
+use Rattle.rules.proofs.Fill.{Filled}
 use Rattle.forward.proofs.bands.bands_of.Given as goal
 
 abbrev pub invariant-loop-k : goal.invariant-loop-k

@@ -3,7 +3,6 @@ use native.Mathlib.Nat.{le_trans}
 use native.Mathlib.Omega.{arith}
 use Rattle.rules.specs.Count.{entry}
 use Rattle.rules.proofs.Count.{rises_far}
-use borrow.Author.Rules.{rules}
 use Rattle.forward.proofs.bands.first_tried.Goals as goal
 
 pub returns-then-squares-guess : goal.returns-then-squares-guess

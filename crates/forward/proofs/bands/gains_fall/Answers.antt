@@ -1,7 +1,5 @@
-use Prim.Native.Nat.{◌-◌, ◌≤◌}
 use mathlib.Core.Bool.{false≢true}
 use native.Mathlib.Omega.{arith}
-use Rattle.forward.specs.Traction.{Falls}
 use Rattle.forward.proofs.Traction.{falls_more}
 use borrow.Author.Rules.{rules}
 use Rattle.forward.proofs.bands.gains_fall.Goals as goal

@@ -1,7 +1,5 @@
-use Prim.Native.Nat.{◌+◌, ◌-◌, ◌≤◌, min}
 use mathlib.Core.Path.{◌≡◌}
 use native.Mathlib.Omega.{arith}
-use Rattle.rules.specs.Count.{entry, greatest_below}
 use Rattle.rules.proofs.Loops.{greatest-none, greatest_more}
 use borrow.Author.Rules.{rules}
 use Rattle.forward.proofs.bands.greatest_part.Goals as goal

@@ -1,7 +1,6 @@
 use mathlib.Core.Path.{sym, ◌∙◌}
 use native.Mathlib.Omega.{arith}
 use Rattle.forward.proofs.Traction.{last_of_row}
-use borrow.Author.Rules.{rules}
 use Rattle.forward.proofs.bands.last_top.Goals as goal
 
 pub returns : goal.returns

@@ -1,6 +1,5 @@
 use native.Mathlib.Omega.{arith}
 use Rattle.forward.proofs.Traction.{band_gives}
-use borrow.Author.Rules.{rules}
 use Rattle.forward.proofs.bands.traction_step.Goals as goal
 
 pub overflow_add-drawn : goal.overflow_add-drawn

@@ -1,4 +1,3 @@
-use borrow.Author.Rules.{rules}
 use Rattle.forward.proofs.stretch.cap_of.Goals as goal
 
 pub returns : goal.returns

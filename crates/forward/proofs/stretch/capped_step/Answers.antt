@@ -1,6 +1,5 @@
 use native.Mathlib.Omega.{arith}
 use Rattle.forward.proofs.Traction.{cap_reached}
-use borrow.Author.Rules.{rules}
 use Rattle.forward.proofs.stretch.capped_step.Goals as goal
 
 pub returns-then-cap-before : goal.returns-then-cap-before

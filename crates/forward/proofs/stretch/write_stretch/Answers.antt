@@ -4,16 +4,14 @@ use native.Mathlib.Nat.{le_trans}
 use native.Mathlib.Numerals.{add-one}
 use native.Mathlib.Omega.{arith}
 use lib.Dec.{eqb}
-use lib.ListN.{length, length-set}
+use lib.ListN.{length-set}
 use Rattle.rules.specs.Count.{entry, row}
 use Rattle.rules.specs.Run.{listed}
 use Rattle.rules.proofs.Fill.{fill_none, fill_up}
-use Rattle.stops.specs.Stops.{Behind, NextStop}
+use Rattle.stops.specs.Stops.{NextStop}
 use Rattle.stops.proofs.Passing.{next_here, here-listed, behind_on}
 use Rattle.forward.specs.declared.bands.Bands.{Bands}
-use Rattle.forward.specs.Stretch.{SweptTo}
 use Rattle.forward.proofs.Sweeping.{before_next, forward-at, cap-at, capped-most}
-use borrow.Author.Rules.{rules}
 use Rattle.forward.proofs.stretch.write_stretch.Goals as goal
 
 pub loop-i-init : goal.loop-i-init

@@ -1,19 +1,9 @@
-use Prim.Native.Nat.{ℕ, ◌-◌, ◌≤◌}
-use mathlib.Core.Path.{◌≡◌, refl, ◌∙◌}
-use native.Mathlib.Nat.{le_trans}
-use native.Mathlib.Numerals.{add-one}
-use native.Mathlib.Omega.{arith}
-use lib.Dec.{eqb}
-use lib.ListN.{length, length-set}
+use Prim.Native.Nat.{◌-◌, ◌≤◌}
+use mathlib.Core.Path.{◌≡◌}
+use lib.ListN.{length}
 use Rattle.rules.specs.Count.{entry, row}
-use Rattle.rules.specs.Run.{listed}
-use Rattle.rules.proofs.Fill.{fill_none, fill_up}
-use Rattle.stops.specs.Stops.{Behind, NextStop}
-use Rattle.stops.proofs.Passing.{next_here, here-listed, behind_on}
-use Rattle.forward.specs.declared.bands.Bands.{Bands}
+use Rattle.stops.specs.Stops.{Behind}
 use Rattle.forward.specs.Stretch.{SweptTo}
-use Rattle.forward.proofs.Sweeping.{before_next, forward-at, cap-at, capped-most}
-use borrow.Author.Rules.{rules}
 use Rattle.forward.proofs.stretch.write_stretch.Given as goal
 
 abbrev pub invariant-loop-i : goal.invariant-loop-i

@@ -1,8 +1,6 @@
 use mathlib.Core.Path.{sym, ◌∙◌}
 use native.Mathlib.Omega.{arith}
-use Prim.Native.Nat.{◌-◌}
-use Rattle.hold.proofs.Nearing.{Nearing, near_first, near_on, near_there, near_end}
-use borrow.Author.Rules.{rules}
+use Rattle.hold.proofs.Nearing.{near_first, near_on, near_there, near_end}
 use Rattle.hold.proofs.approach.approach_point.Goals as goal
 
 pub loop-i-init : goal.loop-i-init

@@ -1,8 +1,5 @@
-use mathlib.Core.Path.{sym, ◌∙◌}
-use native.Mathlib.Omega.{arith}
 use Prim.Native.Nat.{◌-◌}
-use Rattle.hold.proofs.Nearing.{Nearing, near_first, near_on, near_there, near_end}
-use borrow.Author.Rules.{rules}
+use Rattle.hold.proofs.Nearing.{Nearing}
 use Rattle.hold.proofs.approach.approach_point.Given as goal
 
 abbrev pub invariant-loop-i : goal.invariant-loop-i

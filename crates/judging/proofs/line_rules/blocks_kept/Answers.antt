@@ -1,7 +1,6 @@
 use Rattle.rules.proofs.Loops.{and_of}
 use native.Mathlib.Omega.{arith}
 use Rattle.judging.proofs.Rules.{block-numbers}
-use borrow.Author.Rules.{rules}
 use Rattle.judging.proofs.line_rules.blocks_kept.Goals as goal
 
 pub returns : goal.returns

@@ -1,6 +1,5 @@
 use mathlib.Core.Path.{sym}
 use Rattle.rules.proofs.Refusal.{refusal-none, kept_of_lem}
-use borrow.Author.Rules.{rules}
 use Rattle.judging.proofs.line_rules.first_of_line.Goals as goal
 
 pub returns : goal.returns

@@ -1,7 +1,6 @@
 use Rattle.rules.proofs.Loops.{and_of}
 use native.Mathlib.Omega.{arith}
 use Rattle.judging.proofs.Rules.{limit_point_numbers}
-use borrow.Author.Rules.{rules}
 use Rattle.judging.proofs.line_rules.limit_points_kept.Goals as goal
 
 pub returns : goal.returns

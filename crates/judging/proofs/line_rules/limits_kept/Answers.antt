@@ -1,6 +1,5 @@
 use Rattle.rules.specs.Refusal.{limits_rule}
 use Rattle.rules.proofs.Loops.{within-row}
-use borrow.Author.Rules.{rules}
 use Rattle.judging.proofs.line_rules.limits_kept.Goals as goal
 
 pub returns : goal.returns

@@ -2,7 +2,6 @@ use borrow.Author.Tests.{not-true, not-false}
 use mathlib.Core.Path.{sym, ◌∙◌}
 use Rattle.rules.proofs.Refusal.{head_broken, head_kept}
 use Rattle.judging.proofs.Checks.{line_sized}
-use borrow.Author.Rules.{rules}
 use mathlib.Core.Path.{ap}
 use mathlib.Core.Bool.{not}
 use Rattle.judging.proofs.line_rules.line_refusal.Goals as goal

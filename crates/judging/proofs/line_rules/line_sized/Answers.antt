@@ -1,5 +1,4 @@
 use Rattle.judging.proofs.Rules.{line_sizes_of}
-use borrow.Author.Rules.{rules}
 use Rattle.judging.proofs.line_rules.line_sized.Goals as goal
 
 pub returns : goal.returns

@@ -1,5 +1,4 @@
 use Rattle.rules.proofs.Loops.{and_of}
-use borrow.Author.Rules.{rules}
 use Rattle.judging.proofs.line_rules.line_sizes.Goals as goal
 
 pub returns : goal.returns

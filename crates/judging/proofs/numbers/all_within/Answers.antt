@@ -1,8 +1,5 @@
-use mathlib.Core.Bool.{true}
-use mathlib.Core.Path.{◌≡◌, sym, ◌∙◌}
+use mathlib.Core.Path.{sym, ◌∙◌}
 use native.Mathlib.Omega.{arith}
-use Prim.Native.Nat.{◌≤◌, ◌-◌}
-use Rattle.rules.specs.Count.{entry, all_within}
 use Rattle.rules.proofs.Loops.{every-none, every_more, every-broken, every_done}
 use borrow.Author.Rules.{rules}
 use Rattle.judging.proofs.numbers.all_within.Goals as goal

@@ -1,8 +1,5 @@
-use mathlib.Core.Bool.{true}
-use mathlib.Core.Path.{◌≡◌, sym}
-use Prim.Native.Nat.{◌≤◌, ◌-◌, ◌+◌}
+use mathlib.Core.Path.{sym}
 use native.Mathlib.Omega.{arith}
-use Rattle.rules.specs.Count.{entry, below_by}
 use Rattle.rules.proofs.Loops.{every-none, every_more, every-broken, every_done, gap_kept, gap_broken}
 use borrow.Author.Rules.{rules}
 use Rattle.judging.proofs.numbers.below_by.Goals as goal

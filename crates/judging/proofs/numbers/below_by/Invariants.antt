@@ -1,10 +1,7 @@
 use mathlib.Core.Bool.{true}
-use mathlib.Core.Path.{◌≡◌, sym}
+use mathlib.Core.Path.{◌≡◌}
 use Prim.Native.Nat.{◌≤◌, ◌-◌, ◌+◌}
-use native.Mathlib.Omega.{arith}
 use Rattle.rules.specs.Count.{entry, below_by}
-use Rattle.rules.proofs.Loops.{every-none, every_more, every-broken, every_done, gap_kept, gap_broken}
-use borrow.Author.Rules.{rules}
 use Rattle.judging.proofs.numbers.below_by.Given as goal
 
 abbrev pub invariant-loop-i : goal.invariant-loop-i

@@ -6,8 +6,6 @@ use Rattle.rules.proofs.Accepted.{sizes_broken, line_broken, line_passed}
 use Rattle.values.specs.Values.{as_line, as_train}
 use Rattle.judging.specs.declared.train_rules.TrainKept.{TrainKept}
 use Rattle.judging.proofs.Checks.{both_sized, sized_kept}
-use borrow.Author.Rules.{rules}
-use mathlib.Core.Bool.{not}
 use Rattle.judging.proofs.on_line.refusal_on.Goals as goal
 
 pub returns-then-not-kept : goal.returns-then-not-kept

@@ -1,6 +1,5 @@
 use Rattle.judging.proofs.Rules.{band_numbers}
 use Rattle.rules.proofs.Loops.{and_of}
-use borrow.Author.Rules.{rules}
 use Rattle.judging.proofs.train_rules.bands_kept.Goals as goal
 
 pub returns : goal.returns

@@ -1,4 +1,3 @@
-use borrow.Author.Rules.{rules}
 use Rattle.judging.proofs.train_rules.both_keep.Goals as goal
 
 pub returns : goal.returns

@@ -1,6 +1,5 @@
 use mathlib.Core.Path.{refl, sym}
 use Rattle.rules.proofs.Refusal.{refusal-none, kept_of_lem}
-use borrow.Author.Rules.{rules}
 use Rattle.judging.proofs.train_rules.first_of_trains.Goals as goal
 
 pub returns : goal.returns

@@ -4,7 +4,6 @@ use Rattle.judging.proofs.Rules.{last_block_numbers}
 use Prim.Native.Nat.{◌+◌, ◌-◌}
 use native.Mathlib.Nat.{div-le_self}
 use native.Mathlib.Omega.{arith}
-use borrow.Author.Rules.{rules}
 use Rattle.judging.proofs.train_rules.last_block_kept.Goals as goal
 
 pub overflow_add-result : goal.overflow_add-result

@@ -1,6 +1,5 @@
 use Rattle.rules.proofs.Loops.{and_of}
 use Rattle.judging.proofs.Rules.{train_sizes_of}
-use borrow.Author.Rules.{rules}
 use Rattle.judging.proofs.train_rules.sized_on.Goals as goal
 
 pub returns : goal.returns

@@ -5,7 +5,6 @@ use Rattle.rules.specs.Refusal.{sizes_on}
 use Rattle.values.specs.Values.{as_line, as_train}
 use Rattle.judging.specs.Sized.{Sized, Counted}
 use Rattle.judging.proofs.Checks.{both_sized, none_kept, sized_kept}
-use borrow.Author.Rules.{rules}
 use mathlib.Core.Path.{ap}
 use mathlib.Core.Bool.{not}
 use Rattle.judging.proofs.train_rules.train_kept.Goals as goal

@@ -1,5 +1,4 @@
 use Rattle.rules.proofs.Loops.{and_of}
-use borrow.Author.Rules.{rules}
 use Rattle.judging.proofs.train_rules.train_sizes.Goals as goal
 
 pub returns : goal.returns

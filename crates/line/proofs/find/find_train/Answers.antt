@@ -2,7 +2,6 @@ use native.Mathlib.Omega.{arith}
 use mathlib.Core.Path.{sym, ◌∙◌}
 use Rattle.rules.proofs.Accepted.{train-refused, train_missing, train-there}
 use Rattle.line.proofs.Opening.{file_number, file_accepted, file_trains, file_place, file_line, not_found, found_there}
-use borrow.Author.Rules.{rules}
 use Rattle.line.proofs.find.find_train.Goals as goal
 
 pub returns-then-opened-ne0 : goal.returns-then-opened-ne0

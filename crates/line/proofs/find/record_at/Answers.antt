@@ -1,11 +1,7 @@
-use Prim.Native.Nat.{◌≤◌, ◌-◌}
 use mathlib.Core.Path.{◌≡◌, sym, ◌∙◌}
 use native.Mathlib.Omega.{arith}
-use lib.ListN.{length}
-use Rattle.rules.specs.File.{record_at}
 use Rattle.rules.proofs.Accepted.{file_there}
 use Rattle.rules.proofs.File.{record_first, trains-within, part_next, part_inside}
-use borrow.Author.Rules.{rules}
 use Rattle.line.proofs.find.record_at.Goals as goal
 
 pub loop-i-init : goal.loop-i-init

@@ -2,9 +2,6 @@ use native.Mathlib.Omega.{arith}
 use borrow.Author.Tests.{not-true, not-false}
 use Rattle.rules.proofs.Accepted.{announced_there}
 use Rattle.line.proofs.Judging.{line_here, by_sizes, by_line, by_trains}
-use borrow.Author.Rules.{rules}
-use mathlib.Core.Path.{ap}
-use mathlib.Core.Bool.{not}
 use Rattle.line.proofs.judge.judge.Goals as goal
 
 pub trains_kept-kept-requires : goal.trains_kept-kept-requires

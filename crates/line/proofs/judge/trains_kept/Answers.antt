@@ -1,13 +1,11 @@
-use Prim.Native.Nat.{◌-◌, ◌≤◌, ◌<◌}
+use Prim.Native.Nat.{◌<◌}
 use mathlib.Core.Path.{◌≡◌, sym, ap, ◌∙◌}
 use native.Mathlib.Omega.{arith}
-use lib.ListN.{length}
-use Rattle.rules.specs.File.{train_count, record_at}
+use Rattle.rules.specs.File.{train_count}
 use Rattle.rules.proofs.File.{record_first, trains-within, part_next, part_inside}
 use Rattle.reading.specs.declared.decode.DecodedFile.{DecodedFile}
-use Rattle.line.specs.Judged.{all_kept, kept_of}
+use Rattle.line.specs.Judged.{kept_of}
 use Rattle.line.proofs.Judging.{kept-none, kept_more, kept_here}
-use borrow.Author.Rules.{rules}
 use Rattle.line.proofs.judge.trains_kept.Goals as goal
 
 pub loop-k-init : goal.loop-k-init

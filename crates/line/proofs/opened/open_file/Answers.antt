@@ -2,7 +2,6 @@ use mathlib.Core.Path.{sym, ap, ◌∙◌}
 use Rattle.rules.proofs.Accepted.{file_cut}
 use Rattle.reading.specs.declared.decode.DecodedFile.{DecodedFile}
 use Rattle.line.proofs.Opening.{file_refused, file_opened}
-use borrow.Author.Rules.{rules}
 use Rattle.line.proofs.opened.open_file.Goals as goal
 
 pub returns-then-cut-ne0 : goal.returns-then-cut-ne0

@@ -1,6 +1,5 @@
 use native.Mathlib.Omega.{arith}
 use Rattle.line.proofs.Opening.{train_not_opened, place-within, train-opened}
-use borrow.Author.Rules.{rules}
 use Rattle.line.proofs.opened.open_train.Goals as goal
 
 pub returns-then-found-ne0 : goal.returns-then-found-ne0

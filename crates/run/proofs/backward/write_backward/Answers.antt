@@ -1,12 +1,10 @@
-use Prim.Native.Nat.{◌-◌, ◌<◌}
+use Prim.Native.Nat.{◌-◌}
 use mathlib.Core.Path.{◌≡◌, refl, sym}
 use native.Mathlib.Omega.{arith}
 use Rattle.rules.specs.Count.{entry}
-use Rattle.rules.specs.Run.{backward_sweep}
-use Rattle.rules.proofs.Fill.{Filled, fill_one, fill_down}
+use Rattle.rules.proofs.Fill.{fill_one, fill_down}
 use Rattle.rules.proofs.Written.{fill_written}
 use Rattle.rules.proofs.Sweep.{backward_last, backward_next, backward_le}
-use borrow.Author.Rules.{rules}
 use Rattle.run.proofs.backward.write_backward.Goals as goal
 
 pub loop-i-init : goal.loop-i-init

@@ -1,12 +1,7 @@
-use Prim.Native.Nat.{◌-◌, ◌<◌}
-use mathlib.Core.Path.{◌≡◌, refl, sym}
-use native.Mathlib.Omega.{arith}
+use Prim.Native.Nat.{◌<◌}
 use Rattle.rules.specs.Count.{entry}
 use Rattle.rules.specs.Run.{backward_sweep}
-use Rattle.rules.proofs.Fill.{Filled, fill_one, fill_down}
-use Rattle.rules.proofs.Written.{fill_written}
-use Rattle.rules.proofs.Sweep.{backward_last, backward_next, backward_le}
-use borrow.Author.Rules.{rules}
+use Rattle.rules.proofs.Fill.{Filled}
 use Rattle.run.proofs.backward.write_backward.Given as goal
 
 abbrev pub invariant-loop-i : goal.invariant-loop-i

@@ -1,6 +1,5 @@
 use mathlib.Core.Path.{ap, sym, ◌∙◌}
 use Rattle.rules.specs.Time.{root}
-use borrow.Author.Rules.{rules}
 use Rattle.run.proofs.kept.root_after.Goals as goal
 
 pub returns-then-w-before : goal.returns-then-w-before

@@ -1,7 +1,6 @@
 use Prim.Native.Nat.{◌*◌}
 use mathlib.Core.Path.{sym, ap, ◌∙◌}
 use native.Mathlib.Omega.{arith}
-use borrow.Author.Rules.{rules}
 use Rattle.rules.specs.Count.{ceil_div}
 use Rattle.rules.specs.Time.{cell_time}
 use Rattle.run.proofs.times.cell_after.Goals as goal

@@ -4,7 +4,6 @@ use Rattle.rules.specs.Line.{train_at}
 use Rattle.values.specs.Values.{as_line, as_train}
 use Rattle.reading.proofs.Decoding.{train_is}
 use Rattle.study.proofs.Adding.{hold_taken, speeds_long, times_long, last-arrival}
-use borrow.Author.Rules.{rules}
 use Rattle.study.proofs.train.time_train.Goals as goal
 
 pub overflow_sub-last : goal.overflow_sub-last
