@@ -3,14 +3,15 @@
 use Prim.Native.Nat.{ℕ}
 use mathlib.Core.List.{[], ◌∷◌}
 use seplogic.Ra.Ura.{Ura}
-use seplogic.Ra.TreeShare.{full_share}
+use base.Fraction.{full_share}
 use base.Logic.{SProp, ent, sep, ex, guard}
-use base.Fml.{Fml, Lft, Share, GName, fsep, flft, fobs, fauth, fbor, fobor, fshr_bor}
+use base.Fml.{Fml, Lft, Share, GName, fsep, flft, fobs, fauth, fbor, fobor}
 use types.Logic.{Logic, sem}
-use types.Kit.{‵, ◌$◌, ◌∵◌, !, qed, move, keep, fsplit, fsplit3, updating, now, check, show, frame, done}
+use types.Kit.{Item, ‵, ◌⊛◌, mean, ◌$◌, ◌∵◌, !, qed, move, keep, split, join, fsplit3, updating, now, check, show, frame, done}
 use types.SemTy.{Body}
 use denote.Laws.{Is, shows}
-use denote.Memory.{cell_at, part_at, mem}
+use denote.Opens.{Shut}
+use denote.Memory.{cell_at, part_at, hidden_shr, mem}
 use denote.Steps.{looks, shuts, opens, closes, peeks, facts, owned}
 use denote.Struct.Steps.{spelt}
 use denote.Struct.Struct.{Plains}
@@ -25,21 +26,21 @@ module _ {M : Type 1} {𝓤 : Ura M} (𝓛 : Logic 𝓤) (T : Declared) (L : LL.
 
   -- a `&`: the cell, and what is left while it is lent
   module _ (κ : Lft) (q : Share) (h : T.D) (b o : ℕ) where
-    abbrev pub Looked : Share → Fml
-    Looked s = fsep ((row T).own_val h (LL.vals T L h)) (fobor κ q (part_at (row T) s h b o))
+    abbrev pub Looked : Share → Item 𝓤
+    Looked s = ‵ ((row T).own_val h (LL.vals T L h)) ⊛ Shut 𝓛 κ q (part_at (row T) s h b o)
 
-    pub looked : LL.Copyables T.parts → ent 𝓤 (sep 𝓤 (sem 𝓛 (fshr_bor κ (λ s. part_at (row T) s h b o))) (sem 𝓛 (flft κ q)))
-        (H.⇛ (guard 𝓤 (Is (row T) h (LL.vals T L h)) (ex 𝓤 (λ (s : Share). sep 𝓤 (At s b o h) (sem 𝓛 (Looked s))))))
+    pub looked : LL.Copyables T.parts → ent 𝓤 (sep 𝓤 (sem 𝓛 (hidden_shr (row T) κ h b o)) (sem 𝓛 (flft κ q)))
+        (H.⇛ (guard 𝓤 (Is (row T) h (LL.vals T L h)) (ex 𝓤 (λ (s : Share). sep 𝓤 (At s b o h) (mean 𝓛 (Looked s))))))
     looked cs =
-        qed 𝓛 (‵ (fshr_bor κ (λ s. part_at (row T) s h b o)) ∷ ‵ (flft κ q) ∷ []) ∵ updating ! $
-        looks ! tt (row T) (Is (row T)) (shows 𝓛 (row T)) (LL.vals T L) (LL.tells T L) (LL.copy T cs 𝓛) h b o (λ s vs.
+        qed 𝓛 (‵ (hidden_shr (row T) κ h b o) ∷ ‵ (flft κ q) ∷ []) ∵ updating ! $
+        looks ! tt (row T) (LL.copied T cs 𝓛).opens h b o (λ s vs.
         spelt ! (row T) (Is (row T)) (shows 𝓛 (row T)) (LL.vals T L) (LL.tells T L) s h vs b o $ move ! (1 ∷ []) $
-        peeks ! (row T) (Is (row T)) (shows 𝓛 (row T)) h (LL.vals T L h) (λ is.
-        now ! $ check ! is $ show ! (λ (u : Share). sep 𝓤 (At u b o h) (sem 𝓛 (Looked u))) s $ keep ! (1 ∷ 0 ∷ 2 ∷ []) $ done !))
+        peeks ! (row T) (Is (row T)) (shows 𝓛 (row T)) h (LL.vals T L h) (λ is. move ! (0 ∷ 2 ∷ []) $ join ! $ keep ! (1 ∷ 0 ∷ []) $
+        now ! $ check ! is $ show ! (λ (u : Share). sep 𝓤 (At u b o h) (mean 𝓛 (Looked u))) s $ frame ! $ done !))
 
-    pub shut : (s : Share) → ent 𝓤 (sep 𝓤 (At s b o h) (sem 𝓛 (Looked s))) (H.⇛ (sem 𝓛 (flft κ q)))
+    pub shut : (s : Share) → ent 𝓤 (sep 𝓤 (At s b o h) (mean 𝓛 (Looked s))) (H.⇛ (sem 𝓛 (flft κ q)))
     shut s =
-        qed 𝓛 (‵ (cell_at s (row T).mir (LL.vals T L h) b o) ∷ ‵ (Looked s) ∷ []) ∵ updating ! $ move ! (1 ∷ []) $ fsplit ! $ move ! (2 ∷ 0 ∷ 1 ∷ []) $
+        qed 𝓛 (‵ (cell_at s (row T).mir (LL.vals T L h) b o) ∷ Looked s ∷ []) ∵ updating ! $ move ! (1 ∷ []) $ split ! $ move ! (2 ∷ 0 ∷ 1 ∷ []) $
         shuts ! tt (row T) s h (LL.vals T L h) b o $ now ! $ done !
 
   -- a `&mut`: the cell, and what is left while it is open
