@@ -24,6 +24,66 @@ ID = r"[A-Za-z_][A-Za-z0-9_'\-₀₁₂₃₄₅₆₇₈₉]*"
 IDF = r"[A-Za-z0-9_][A-Za-z0-9_'\-₀₁₂₃₄₅₆₇₈₉]*"
 PATH = re.compile(r"(?<![A-Za-z0-9_'\-.₀-₉])(" + ID + r")((?:\." + IDF + r")*)")
 
+CLAUSES = {}
+PARAMS = {}
+top = os.path.dirname(crate_dir)
+for r_, d_, f_ in os.walk(top):
+    d_[:] = [x for x in d_ if x not in ('out', 'specs', 'proofs', 'must-fail')]
+    for n_ in f_:
+        if n_.endswith('.rt'):
+            src_ = open(os.path.join(r_, n_)).read()
+            cr_ = os.path.relpath(r_, top).split(os.sep)[0]
+            for m_ in re.finditer(r"\bfn (\w+)(.*?)\n\s*\{\n", src_, re.S):
+                if '\nfn ' in m_.group(2): continue
+                pm = re.match(r"\s*(?:<[^>]*>)?\(([^)]*)\)", m_.group(2))
+                if pm: PARAMS[(cr_, m_.group(1))] = [('self' if 'self' in x and ':' not in x else x.split(':')[0].replace('mut ', '').strip()) for x in pm.group(1).split(',') if x.strip()]
+                cl = re.findall(r"^\s+(requires|ensures)\*? ?(\w*) \{", m_.group(2), re.M)
+                CLAUSES[(cr_, m_.group(1))] = ([n for k, n in cl if k == 'requires'], [n for k, n in cl if k == 'ensures'])
+def clause_path(ns, digits):
+    """old tuple path -> new fields"""
+    if len(ns) < 2: return digits
+    ds = list(digits)
+    for k, n in enumerate(ns):
+        if k == len(ns) - 1: return [n] + ds
+        if not ds or ds[0] not in ('0', '1'): return digits
+        d = ds.pop(0)
+        if d == '0': return [n] + ds
+    return digits
+
+def split_top(t):
+    parts = []; depth = 0; cur = ''
+    for ch in t:
+        if ch in '([{': depth += 1
+        if ch in ')]}': depth -= 1
+        if ch == ',' and depth == 0: parts.append(cur); cur = ''
+        else: cur += ch
+    parts.append(cur)
+    return [p for p in parts if p.strip()]
+def as_record(b, ns):
+    t = b.rstrip()
+    if not t.endswith(')'): return b
+    depth = 0; i = len(t) - 1
+    while i >= 0:
+        if t[i] == ')': depth += 1
+        if t[i] == '(':
+            depth -= 1
+            if depth == 0: break
+        i -= 1
+    before = t[:i].rstrip()
+    if before and not before.endswith(' in') and not before.endswith('\nin') : return b
+    inner = t[i+1:-1]; vals = []
+    for k in range(len(ns) - 1):
+        ps = split_top(inner)
+        if len(ps) < 2: return b
+        vals.append(ps[0].strip())
+        rest = ','.join(ps[1:]).strip()
+        if k < len(ns) - 2:
+            if rest.startswith('(') and rest.endswith(')'): inner = rest[1:-1]
+            else: inner = rest
+        else: vals.append(rest)
+    vals = [v if len(split_top(v)) == 1 else '(' + v + ')' for v in vals]
+    return t[:i] + 'record {\n      ' + ';\n      '.join(f'{n} = {v}' for n, v in zip(ns, vals)) + ';\n    }'
+
 class Fn:
     def __init__(s, key, d):
         s.d = d; s.key = key
@@ -36,6 +96,9 @@ class Fn:
         s.needs = [(normneed(a), b, i) for i, (a, b) in enumerate(d.get('needs', []))]
         s.asked = d.get('asked_at', [])
         s.goal_place = None; s.nots = False
+        s.callee = {}
+        for p in d.get('places', []):
+            if p[3]: s.callee[p[2][1]] = (p[3].split('::')[0], p[3].split('::')[-1])
     def up(s, p):
         return s.places[p][0]
 
@@ -51,17 +114,27 @@ def resolve(fn, place, fields, left):
     f = norm(fs[0])
     if f.endswith('_lem'): f = f[:-4]
     if f in ('args', 'requires', 'pre', 'ranges', 'type_inv', 'well_formed'):
-        name = {'pre':'requires','well_formed':'type_inv'}.get(f, f)
+        name = {'pre':'requires','well_formed':'well_formed'}.get(f, f)
+        if name == 'requires': fs = [fs[0]] + clause_path(fn.clauses[0], fs[1:])
+        if name == 'args' and len(fs) > 1: fs = [fs[0], norm(fs[1])] + fs[2:]
         return ('text', '.'.join(['\x03', name] + fs[1:]))
     # find the label at p or at an ancestor
     def same(a, b): return a == b or a.replace('_','') == b.replace('_','') or a.lower() == b.lower()
     def fin(lab):
         rest = fs[1:]
-        if lab.startswith('if-not-') and rest and rest[0] in ('true', 'false') and len(rest) == 1:
+        if lab.startswith('if-not-') and rest and rest[0] in ('true', 'false') and len(rest) == 1 and any(v[1] == lab[7:].split('-')[0] for v in fn.callee.values()):
             fn.nots = True
             return ('text', f'(ap not \x03.{lab}.{rest[0]})')
         m = {'inv':'invariant','good':'ensures','taken':'true','not-taken':'false'}
         rest = [m.get(x, x) for x in rest[:1]] + rest[1:]
+        key = fn.callee.get(lab)
+        if rest and rest[0] == 'new' and key and key in PARAMS:
+            ds = rest[1:]; k = 0
+            while ds and ds[0] == '1': ds.pop(0); k += 1
+            if ds and ds[0] == '0' and k < len(PARAMS[key]): rest = ['new', PARAMS[key][k]] + ds[1:]
+        if rest and rest[0] == 'ensures' and key:
+            rest = ['ensures'] + clause_path(CLAUSES.get(key, ([], []))[1], rest[1:])
+        if len(rest) > 1 and rest[0] not in ('ensures', 'result', 'new', 'invariant', 'true', 'false'): rest = [norm(rest[0])] + rest[1:]
         return ('text', '.'.join(['\x03', lab] + rest))
     q = p; hops = 0
     base = re.sub(r'_?(\d+)$', '', f)
@@ -235,9 +308,11 @@ def conv(path, fnkey, fn, modpath):
             text = re.sub(r"(?<![\w'\-.])" + re.escape(h) + r" \x01\w+\x02", subh, text)
         if '\x01' in text: left.append('a place is passed on'); text = re.sub(r"\x01(\w+)\x02", r"«\1»", text)
         text = text.replace(' κs', '').replace('\x03', 'c')
+        text = re.sub(r"not-(?:true|false) \S+ \(ap not ([^()]*)\)", r"\1", text)
+        text = re.sub(r"\((c\.[\w'.\-]+)\)", r"\1", text)
         text = re.sub(r"\.inv(?=[.\s),;\]}]|$)", ".invariant", text)
         text = re.sub(r"\.pre(?=[.\s),;\]}]|$)", ".requires", text)
-        text = re.sub(r"\bargs\.t(\d+)\b", lambda m: 'args.' + fn.params[int(m.group(1)) - 1] if int(m.group(1)) <= len(fn.params) else m.group(0), text)
+        text = re.sub(r"\.t(\d+)\b", lambda m: '.' + fn.params[int(m.group(1)) - 1] if int(m.group(1)) <= len(fn.params) else m.group(0), text)
         return text
 
     hs = {}
@@ -266,7 +341,7 @@ def conv(path, fnkey, fn, modpath):
         em = re.match(r"((?:\w+ )*)=(.*)$", eq, re.S)
         if not em: left.append('equation of ' + name); continue
         var = (em.group(1).split() or ['c'])[0]; body = em.group(2).strip('\n')
-        trivial = ' '.join(body.split()) in ('search rules',)
+        trivial = ' '.join(body.split()) in ('search rules',) and not unf
         if not hit:
             if not trivial: unmatched.append((name, need, unf, var, body))
             continue
@@ -279,6 +354,17 @@ def conv(path, fnkey, fn, modpath):
             b = trans(body, {var: place})
         except Exception as e:
             left.append(f'{name}: {e!r}'); b = body
+        for lm in re.finditer(r"let (" + ID + r") = c\.(" + ID + r")\.ensures in\b", b):
+            key = fn.callee.get(lm.group(2)); cn = CLAUSES.get(key, ([], []))[1]
+            if len(cn) > 1:
+                b = re.sub(r"(?<![\w'.\-])" + re.escape(lm.group(1)) + r"((?:\.[01])+)(?![\w])", lambda mm: lm.group(1) + '.' + '.'.join(clause_path(cn, mm.group(1).split('.')[1:])), b)
+        ns = None
+        if goal.endswith('-requires') or re.search(r'-requires-\d+$', goal):
+            lab = re.sub(r'-requires(-\d+)?$', '', goal)
+            key = fn.callee.get(lab) or next((v for k, v in fn.callee.items() if k == lab), None)
+            if key: ns = CLAUSES.get(key, ([], []))[0]
+        elif goal.startswith('returns'): ns = fn.clauses[1]
+        if ns and len(ns) > 1: b = as_record(b, ns)
         ls = closure(used)
         lets = ''
         for h in ls:
@@ -376,6 +462,7 @@ for folder, dirs, files in os.walk(os.path.join(crate_dir, 'proofs')):
         key = k2[0]
     f = Fn(key, names[key])
     f.params = []
+    f.clauses = CLAUSES.get((crate, rel.split('/')[-1]), ([], []))
     short = rel.split('/')[-1]
     for r_, d_, f_ in os.walk(os.path.join(crate_dir, 'src')):
         for n_ in f_:

@@ -18,8 +18,8 @@ GOAL = re.compile(r"^\s*(?:tie|goal)\.")
 STD_WORDS = {"length", "append", "take", "drop", "replicate"}
 # lemmas that would have the name of a definition, now that it is in snake case
 LEMMAS = {"in_order", "kept_of", "in_use", "place_at", "line-number"}
-# variables in camel case
-VARIABLES = {"balisesAt", "decodedLines", "decodedTrains", "lastBlock", "stopPoints"}
+# variables and aliases in camel case
+VARIABLES = {"balisesAt", "dotOf", "rootOf", "decodedLines", "decodedTrains", "lastBlock", "stopPoints"}
 
 
 def snake(word):

@@ -4,7 +4,7 @@ ghost use Rattle.std.specs.Float.Ieee.{is_nan};
 ghost use Rattle.rules.specs.Calls.{written};
 ghost use Rattle.rules.specs.Count.{entry};
 ghost use Rattle.rules.specs.Diagram.{record_of, double_bytes, figures_bytes, figures_size, point_size};
-ghost use Rattle.rules.specs.Time.{root as rootOf};
+ghost use Rattle.rules.specs.Time.{root as root_of};
 ghost use Rattle.roots.specs.Root.{as_root};
 ghost use Rattle.diagram.specs.Points.{as_point, AreNumbers, points_of};
 
@@ -61,7 +61,7 @@ fn put_figures(bytes: &mut [u8], at: usize, point: DiagramPoint)
 // The root of w, from that of the point before.
 fn root_after(here: RootAnswer, w: SquaredSpeed) -> RootAnswer
     requires { here.speed.0 ≤ 65535 }
-    ensures { (as_root result ≡ rootOf w.0) × (result.speed.0 ≤ 65535) }
+    ensures { (as_root result ≡ root_of w.0) × (result.speed.0 ≤ 65535) }
 {
     root_from(here.speed.0 as u16, w)
 }

@@ -2,8 +2,8 @@
 #![tactic(auto)]
 
 ghost use Rattle.std.specs.Prelude.{◌≡◌, ◌≤◌, ◌==◌};
-ghost use Rattle.rules.specs.Diagram.{dot as dotOf};
-ghost use Rattle.rules.specs.Time.{root as rootOf};
+ghost use Rattle.rules.specs.Diagram.{dot as dot_of};
+ghost use Rattle.rules.specs.Time.{root as root_of};
 ghost use Rattle.roots.specs.Root.{as_root};
 
 use values::{Speed, SquaredSpeed};
@@ -18,7 +18,7 @@ pub struct RootAnswer {
 // Digit by digit: each trial bit stays where the square keeps within w. The count of leading zeros gives the first. `left` is what is left
 // of w after the square of the digits found; `r` is their root, shifted so that a trial is one sum.
 pub fn root(w: SquaredSpeed) -> RootAnswer
-    ensures { (as_root result ≡ rootOf w.0) × (result.speed.0 ≤ 65535) }
+    ensures { (as_root result ≡ root_of w.0) × (result.speed.0 ≤ 65535) }
 {
     let digits = (33 - u32::leading_zeros(w.0)) / 2;
     // 4^(digits - 1), or 0 where w is 0. 4^digits needs up to 33 bits.
@@ -42,7 +42,7 @@ pub fn root(w: SquaredSpeed) -> RootAnswer
 
 // Whether the guess is the number of the root of w. A square above w leaves, modulo 2^32, more than twice any guess.
 pub fn is_root(guess: u16, w: SquaredSpeed) -> bool
-    ensures { result ≡ (guess == (rootOf w.0).number) }
+    ensures { result ≡ (guess == (root_of w.0).number) }
 {
     let r = guess as u32;
     std::num::wrapping_sub_u32(w.0, r * r) <= 2 * r
@@ -50,7 +50,7 @@ pub fn is_root(guess: u16, w: SquaredSpeed) -> bool
 
 // The root of w, whatever the guess.
 pub fn root_from(guess: u16, w: SquaredSpeed) -> RootAnswer
-    ensures { (as_root result ≡ rootOf w.0) × (result.speed.0 ≤ 65535) }
+    ensures { (as_root result ≡ root_of w.0) × (result.speed.0 ≤ 65535) }
 {
     if is_root(guess, w) {
         let number = guess as u32;
@@ -64,7 +64,7 @@ pub fn root_from(guess: u16, w: SquaredSpeed) -> RootAnswer
 
 // 1 for a full dot where the speed is whole, 0 for an open one where it was rounded down.
 pub fn dot(r: RootAnswer) -> u8
-    ensures { result ≡ dotOf (as_root r) }
+    ensures { result ≡ dot_of (as_root r) }
 {
     if r.left == 0 { 1 } else { 0 }
 }

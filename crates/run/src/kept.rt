@@ -1,6 +1,6 @@
 // Roots that a run has met, kept so that they are not found again.
 ghost use Rattle.std.specs.Prelude.{◌≡◌, ◌≤◌, ◌<◌, length};
-ghost use Rattle.rules.specs.Time.{root as rootOf};
+ghost use Rattle.rules.specs.Time.{root as root_of};
 ghost use Rattle.roots.specs.Root.{as_root};
 
 use roots::{RootAnswer, is_root, root, root_from};
@@ -16,7 +16,7 @@ fn place_of(w: SquaredSpeed) -> usize
 // The root of w: from the number kept at its place, if that is its root's, else found and kept there.
 fn root_kept(kept: &mut [u16], w: SquaredSpeed) -> RootAnswer
     requires { length kept.old ≡ 1024 }
-    ensures result_value { (as_root result ≡ rootOf w.0) × (result.speed.0 ≤ 65535) }
+    ensures result_value { (as_root result ≡ root_of w.0) × (result.speed.0 ≤ 65535) }
     ensures kept_len { length kept.new ≡ 1024 }
 {
     let place = place_of(w);
@@ -36,8 +36,8 @@ pub(crate) fn root_after(
     here: RootAnswer,
     w: SquaredSpeed,
 ) -> RootAnswer
-    requires { (length kept.old ≡ 1024) × (as_root here ≡ rootOf before.0) × (here.speed.0 ≤ 65535) }
-    ensures result_value { (as_root result ≡ rootOf w.0) × (result.speed.0 ≤ 65535) }
+    requires { (length kept.old ≡ 1024) × (as_root here ≡ root_of before.0) × (here.speed.0 ≤ 65535) }
+    ensures result_value { (as_root result ≡ root_of w.0) × (result.speed.0 ≤ 65535) }
     ensures kept_len { length kept.new ≡ 1024 }
 {
     if w.0 == before.0 {

@@ -82,7 +82,7 @@ module _ (file : List ℕ) (ok : file_refusal file ≡ 0) where
 
       pub next_run : {run : ℕ} → run ≡ last_arrival (as_line line) (train_at (part_from file at) 0) → run ≡ running_time file k
       unfolding running_time
-      next_run e = e ∙ rw (line_is same, train_next)
+      next_run e = e ∙ ap (λ (l : Line). last_arrival l (train_at (part_from file at) 0)) (line_is same) ∙ ap (last_arrival (line_of file)) train_next
 
       -- it is added
       module _ {h : Hold} {x : Addition} (eh : h ≡ hold_of (as_line line) (train_at (part_from file at) 0)) (ex : x ≡ added s h) where

@@ -1,12 +1,9 @@
 -- `lines_length` meets its contract. The invariant: the total is the length of the lines passed, at most 84 bytes each.
 use Prim.Native.Nat.{◌-◌, ◌*◌, ◌≤◌}
-use mathlib.Core.Path.{◌≡◌, refl, ap}
-use native.Mathlib.Omega.{arith}
+use mathlib.Core.Path.{◌≡◌}
 use lib.ListN.{length}
 use Rattle.rules.specs.Text.{joined}
-use Rattle.rules.proofs.Written.{joined_length}
-use Rattle.text.specs.Text.{line_at, lines_text}
-use Rattle.text.proofs.Rows.{line_read}
+use Rattle.text.specs.Text.{line_at}
 use Rattle.text.proofs.lengths.lines_length.Given as goal
 
 abbrev pub invariant-loop-k : goal.invariant-loop-k

@@ -20,9 +20,6 @@ pub write_field-requires : goal.write_field-requires
 write_field-requires c = let a = c.args in
     omega (arith, line_fields a.train a.start a.run a.block)
 
-pub shape_of-buf : goal.shape_of-buf
-shape_of-buf c = omega arith
-
 pub returns : goal.returns
-returns c = line_placed _ _ _ _ c.requires c.«write_field-second».ensures c.«write_field-third».ensures c.«write_field-fourth».ensures
-    c.write_field-second.ensures
+returns c =
+    line_placed _ _ _ _ c.requires c.write_field-second.ensures c.write_field-third.ensures c.write_field-fourth.ensures c.write_field.ensures

@@ -1,11 +1,11 @@
 -- `write_lines` meets its contract. The invariant: the lines passed stand in the buffer.
-use Prim.Native.Nat.{◌+◌, ◌-◌, ◌≤◌}
+use Prim.Native.Nat.{◌+◌}
 use mathlib.Core.Path.{◌≡◌, refl, ap}
 use native.Mathlib.Omega.{arith}
 use lib.ListN.{length}
 use Rattle.rules.specs.Text.{train_line, joined}
 use Rattle.rules.proofs.Written.{joined-within}
-use Rattle.text.specs.Text.{Placed, line_at, lines_text}
+use Rattle.text.specs.Text.{line_at, lines_text}
 use Rattle.text.proofs.Placed.{placed-none, joined-placed}
 use Rattle.text.proofs.Rows.{line_read}
 use Rattle.text.proofs.lines.write_lines.Goals as goal
@@ -14,44 +14,29 @@ pub loop-k-init : goal.loop-k-init
 unfolding joined
 loop-k-init c = (omega arith, refl, placed-none)
 
-pub entry_at-start-requires : goal.entry_at-start-requires
-entry_at-start-requires c = c.loop-k-test.true
-
-pub entry_at-run-requires : goal.entry_at-run-requires
-entry_at-run-requires c = omega arith
-
-pub entry_at-block-requires : goal.entry_at-block-requires
-entry_at-block-requires c = omega arith
-
-pub overflow_add-k : goal.overflow_add-k
-overflow_add-k c = omega arith
-
 pub write_line-next-requires : goal.write_line-next-requires
 unfolding lines_text
 write_line-next-requires c =
-    let read : let a = c.args in train_line (c.«loop-k».k + 1) c.entry_at-start.result c.entry_at-run.result c.entry_at-block.result ≡ line_at a.starts.now a.runs.now a.blocks.now c.«loop-k».k = (line_read _ _ _ _ c.entry_at-start.ensures c.entry_at-run.ensures c.entry_at-block.ensures) in
     let a = c.args in
+    let k = c.loop-k.k in
     let lines = line_at a.starts.now a.runs.now a.blocks.now in
-    let room = joined-within lines c.«loop-k».k (length a.starts.now) (omega arith) in
+    let read : train_line (k + 1) c.entry_at-start.result c.entry_at-run.result c.entry_at-block.result ≡ lines k
+    = line_read _ _ _ _ c.entry_at-start.ensures c.entry_at-run.ensures c.entry_at-block.ensures in
+    let room = joined-within lines k (length a.starts.now) (omega arith) in
     omega (arith, ap length read)
-
-pub overflow_add-k-in-loop-k : goal.overflow_add-k-in-loop-k
-overflow_add-k-in-loop-k c = omega arith
-
-pub loop-k-smaller : goal.loop-k-smaller
-loop-k-smaller c = omega arith
 
 pub loop-k-preserved : goal.loop-k-preserved
 unfolding lines_text
 loop-k-preserved c =
-    let read : let a = c.args in train_line (c.«loop-k».k + 1) c.entry_at-start.result c.entry_at-run.result c.entry_at-block.result ≡ line_at a.starts.now a.runs.now a.blocks.now c.«loop-k».k = (line_read _ _ _ _ c.entry_at-start.ensures c.entry_at-run.ensures c.entry_at-block.ensures) in
-    let placed = rw read at c.«write_line-next».ensures in
-    (omega arith, omega arith, joined-placed _ _ _ c.requires.1 (omega arith) c.«loop-k».invariant.2 placed)
-
-pub shape_of-buf : goal.shape_of-buf
-shape_of-buf c = c.loop-k.invariant.1
+    let a = c.args in
+    let k = c.loop-k.k in
+    let read : train_line (k + 1) c.entry_at-start.result c.entry_at-run.result c.entry_at-block.result
+    ≡ line_at a.starts.now a.runs.now a.blocks.now k
+    = line_read _ _ _ _ c.entry_at-start.ensures c.entry_at-run.ensures c.entry_at-block.ensures in
+    let placed = rw read at c.write_line-next.ensures in
+    (omega arith, omega arith, joined-placed _ _ _ c.requires.blocks_in_bounds (omega arith) c.loop-k.invariant.2 placed)
 
 pub returns : goal.returns
 unfolding lines_text
-returns c = let all : c.«loop-k».k ≡ length c.args.starts.now = omega arith in
-    rw all at c.«loop-k».invariant.2
+returns c = let all : c.loop-k.k ≡ length c.args.starts.now = omega arith in
+    rw all at c.loop-k.invariant.2

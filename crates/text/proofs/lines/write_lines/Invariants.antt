@@ -1,13 +1,9 @@
 -- `write_lines` meets its contract. The invariant: the lines passed stand in the buffer.
-use Prim.Native.Nat.{◌+◌, ◌-◌, ◌≤◌}
-use mathlib.Core.Path.{◌≡◌, refl, ap}
-use native.Mathlib.Omega.{arith}
+use Prim.Native.Nat.{◌-◌, ◌≤◌}
+use mathlib.Core.Path.{◌≡◌}
 use lib.ListN.{length}
-use Rattle.rules.specs.Text.{train_line, joined}
-use Rattle.rules.proofs.Written.{joined-within}
-use Rattle.text.specs.Text.{Placed, line_at, lines_text}
-use Rattle.text.proofs.Placed.{placed-none, joined-placed}
-use Rattle.text.proofs.Rows.{line_read}
+use Rattle.rules.specs.Text.{joined}
+use Rattle.text.specs.Text.{Placed, line_at}
 use Rattle.text.proofs.lines.write_lines.Given as goal
 
 abbrev pub invariant-loop-k : goal.invariant-loop-k

@@ -1,41 +1,18 @@
 -- `write_bytes` meets its contract. The invariant: the bytes passed stand in the buffer.
-use Prim.Native.Nat.{◌+◌, ◌-◌, ◌≤◌}
 use mathlib.Core.Path.{◌≡◌, refl}
 use native.Mathlib.Nat.{add-zero}
 use native.Mathlib.Omega.{arith}
-use lib.ListN.{length, take, length-set}
+use lib.ListN.{take, length-set}
 use lib.Seq.{take_all}
-use Rattle.text.specs.Text.{Placed}
 use Rattle.text.proofs.Placed.{placed-none, copied_next}
 use Rattle.text.proofs.pieces.write_bytes.Goals as goal
 
 pub loop-i-init : goal.loop-i-init
 loop-i-init c = (omega arith, refl, rw add-zero placed-none)
 
-pub bounds-text-i : goal.bounds-text-i
-bounds-text-i c = omega arith
-
-pub overflow_add-buf : goal.overflow_add-buf
-overflow_add-buf c = omega arith
-
-pub bounds-buf-at : goal.bounds-buf-at
-bounds-buf-at c = omega arith
-
-pub overflow_add-i : goal.overflow_add-i
-overflow_add-i c = omega arith
-
-pub loop-i-smaller : goal.loop-i-smaller
-loop-i-smaller c = omega arith
-
 pub loop-i-preserved : goal.loop-i-preserved
 loop-i-preserved c = let l = c.loop-i in
     (omega arith, simp length-set l.invariant.1, copied_next _ l.i c.requires (omega arith) l.invariant.1 l.invariant.2)
-
-pub overflow_add-result : goal.overflow_add-result
-overflow_add-result c = omega arith
-
-pub shape_of-buf : goal.shape_of-buf
-shape_of-buf c = omega arith
 
 pub returns : goal.returns
 returns c = let l = c.loop-i in

@@ -1,12 +1,8 @@
 -- `write_bytes` meets its contract. The invariant: the bytes passed stand in the buffer.
 use Prim.Native.Nat.{◌+◌, ◌-◌, ◌≤◌}
-use mathlib.Core.Path.{◌≡◌, refl}
-use native.Mathlib.Nat.{add-zero}
-use native.Mathlib.Omega.{arith}
-use lib.ListN.{length, take, length-set}
-use lib.Seq.{take_all}
+use mathlib.Core.Path.{◌≡◌}
+use lib.ListN.{length, take}
 use Rattle.text.specs.Text.{Placed}
-use Rattle.text.proofs.Placed.{placed-none, copied_next}
 use Rattle.text.proofs.pieces.write_bytes.Given as goal
 
 abbrev pub invariant-loop-i : goal.invariant-loop-i

@@ -1,0 +1,23 @@
+use mathlib.Core.Path.{ap, ◌∙◌}
+use Rattle.rules.specs.File.{word}
+use Rattle.reading.proofs.Decoding.{array_read, line_decoded}
+use native.Mathlib.Omega.{arith}
+use Rattle.reading.proofs.decode.decode_file.Goals as goal
+
+pub word_at-requires-5 : goal.word_at-requires-5
+word_at-requires-5 c = let at = c.line_places-places.ensures in
+    omega (arith, at.train_count, at.most)
+
+pub returns : goal.returns
+returns c = let three = c.word_at-balises.ensures.0 in
+    let two = c.word_at-blocks.ensures.0 in
+    let one = c.word_at-limits.ensures.0 in
+    let at = c.line_places-places.ensures in
+    let f = c.args.file.now in
+    let line = line_decoded f c.word_at.ensures.0 c.word_at-2.ensures.0 c.word_at-3.ensures.0 c.word_at-4.ensures.0
+    (c.size.ensures.0 ∙ one) (c.size-2.ensures.0 ∙ two) (c.size-3.ensures.0 ∙ three)
+    (array_read f c.words_at.ensures at.limit_points one) (array_read f c.words_at-2.ensures at.limits one)
+    (array_read f c.words_at-3.ensures at.block_starts two) (array_read f c.words_at-4.ensures at.block_ends two)
+    (array_read f c.words_at-5.ensures at.balise_points three) (array_read f c.words_at-6.ensures at.balise_metres three) in
+    let «After_size» = c.size-4.ensures.0 ∙ c.word_at-5.ensures.0 ∙ ap (word f) at.train_count in
+    rw (line, «After_size», at.trains)
