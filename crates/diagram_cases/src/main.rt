@@ -3,6 +3,11 @@
 // byte first.
 #![tactic(auto)]
 
+ghost use Rattle.std.specs.Io.{ReadsAtMost};
+
+use std::io;
+use std::io::Read;
+
 const MOST_CASES: u64 = 100000;
 
 // What the lent bytes hold before a call. No dot, the last byte of a point, has this value.
@@ -22,11 +27,26 @@ fn number_of(bytes: &[u8; 8]) -> u64 {
     n
 }
 
+// Reads until the part is full or the input has ended, and returns how many bytes it put at the part's start.
+fn read_full(input: &mut impl Read, part: &mut [u8]) -> io::Result<usize>
+    ensures { ReadsAtMost result part.new }
+{
+    let mut done = 0;
+    while done < part.len() {
+        let n = input.read(&mut part[done..])?;
+        if n == 0 {
+            break;
+        }
+        done += n;
+    }
+    Ok(done)
+}
+
 // 0 where the input has ended.
-fn read_number() -> u64 {
+fn read_number(input: &mut impl Read) -> io::Result<u64> {
     let mut bytes = [0u8; 8];
-    io::read_full(0, &mut bytes);
-    number_of(&bytes)
+    read_full(input, &mut bytes)?;
+    Ok(number_of(&bytes))
 }
 
 fn turned(n: u64) -> u64 {
@@ -43,48 +63,51 @@ fn bytes_sum(bytes: &[u8]) -> u64 {
     sum
 }
 
-fn print_number(n: u64) {
-    io::write_all(1, b" ");
-    io::print_decimal(1, n);
+fn print_number(rt: &impl Print, n: u64) -> io::Result<()> {
+    print!(rt; " {n}")
 }
 
-fn print_diagram(file: &[u8], k: u64, bytes: &mut [u8]) {
+fn print_diagram(rt: &impl Print, file: &[u8], k: u64, bytes: &mut [u8]) -> io::Result<()> {
     let answer = diagram::diagram(file, k, bytes);
-    io::write_all(1, b"diagram");
-    print_number(answer.number);
-    print_number(answer.bytes);
-    io::write_all(1, b" ");
-    io::print_hex(1, bytes_sum(bytes), 16);
-    io::write_all(1, b"\n");
+    print!(rt; "diagram")?;
+    print_number(rt, answer.number)?;
+    print_number(rt, answer.bytes)?;
+    let sum = bytes_sum(bytes);
+    println!(rt; " {sum:016x}")
 }
 
 // Lends the first bytes of a buffer, as many as asked.
-fn answer(file: &[u8], k: u64, lent: u64) {
+fn answer(rt: &impl Print, file: &[u8], k: u64, lent: u64) -> io::Result<()> {
     let mut bytes = [NO_BYTE; 102500];
     if lent <= 102500 {
-        print_diagram(file, k, &mut bytes[..lent as usize]);
+        print_diagram(rt, file, k, &mut bytes[..lent as usize])?;
     }
+    Ok(())
 }
 
 // Reads a file of at most 65,536 bytes, and answers the question that follows it.
-fn tell() {
-    let mut space = io::large_buffer();
-    let n = read_number();
+fn tell(rt: &impl Print, input: &mut impl Read) -> io::Result<()> {
+    let mut space = [0u8; 65536];
+    let n = read_number(input)?;
     if n <= 65536 {
-        io::read_full(0, &mut space[..n as usize]);
-        let k = read_number();
-        answer(&space[..n as usize], k, read_number());
+        read_full(input, &mut space[..n as usize])?;
+        let k = read_number(input)?;
+        let lent = read_number(input)?;
+        answer(rt, &space[..n as usize], k, lent)?;
     }
+    Ok(())
 }
 
-fn main() {
-    let asked = read_number();
+fn main(rt: HostRuntime) -> io::Result<()> {
+    let mut input = rt.stdin();
+    let asked = read_number(&mut input)?;
     let mut cases: u64 = 0;
     while cases < MOST_CASES {
         if asked <= cases {
-            return;
+            return Ok(());
         }
-        tell();
+        tell(&rt, &mut input)?;
         cases += 1;
     }
+    Ok(())
 }

@@ -3,6 +3,11 @@
 // (8 bytes), the file, which has one train, then the questions: the point and the length of the buffer (8 bytes each).
 #![tactic(auto)]
 
+ghost use Rattle.std.specs.Io.{ReadsAtMost};
+
+use std::io;
+use std::io::Read;
+
 const MOST_FILES: u64 = 100000;
 
 // What the buffer holds before a call: greater than any squared speed.
@@ -26,28 +31,43 @@ fn number_of(bytes: &[u8; 8]) -> u64 {
     n
 }
 
-// 0 where the input has ended.
-fn read_number() -> u64 {
-    let mut bytes = [0u8; 8];
-    io::read_full(0, &mut bytes);
-    number_of(&bytes)
+// Reads until the part is full or the input has ended, and returns how many bytes it put at the part's start.
+fn read_full(input: &mut impl Read, part: &mut [u8]) -> io::Result<usize>
+    ensures { ReadsAtMost result part.new }
+{
+    let mut done = 0;
+    while done < part.len() {
+        let n = input.read(&mut part[done..])?;
+        if n == 0 {
+            break;
+        }
+        done += n;
+    }
+    Ok(done)
 }
 
-fn print_number(n: u64) {
-    io::write_all(1, b" ");
-    io::print_decimal(1, n);
+// 0 where the input has ended.
+fn read_number(input: &mut impl Read) -> io::Result<u64> {
+    let mut bytes = [0u8; 8];
+    read_full(input, &mut bytes)?;
+    Ok(number_of(&bytes))
+}
+
+fn print_number(rt: &impl Print, n: u64) -> io::Result<()> {
+    print!(rt; " {n}")
 }
 
 // Prints the first n entries, or all where there are fewer.
-fn print_first(speeds: &[u32], n: u64) {
+fn print_first(rt: &impl Print, speeds: &[u32], n: u64) -> io::Result<()> {
     let mut i = 0;
     while i < speeds.len() {
         if n <= i as u64 {
-            return;
+            return Ok(());
         }
-        print_number(wide32(speeds[i]));
+        print_number(rt, wide32(speeds[i]))?;
         i += 1;
     }
+    Ok(())
 }
 
 // Sweeps the train of a file that is not judged before. Where the file ends before the train's record, this is read as zeros.
@@ -60,51 +80,61 @@ fn sweep(file: &[u8], point: u16, speeds: &mut [u32]) -> u64 {
 }
 
 // Prints the answer, and the entries up to the one behind the point.
-fn print_sweep(file: &[u8], point: u16, speeds: &mut [u32]) {
+fn print_sweep(rt: &impl Print, file: &[u8], point: u16, speeds: &mut [u32]) -> io::Result<()> {
     let number = sweep(file, point, speeds);
-    io::write_all(1, b"forward");
-    print_number(number);
-    print_first(speeds, point as u64 + 2);
-    io::write_all(1, b"\n");
+    print!(rt; "forward")?;
+    print_number(rt, number)?;
+    print_first(rt, speeds, point as u64 + 2)?;
+    println!(rt)
 }
 
 // Lends the first entries of a buffer, as many as asked.
-fn answer(file: &[u8], point: u64, length: u64) {
+fn answer(rt: &impl Print, file: &[u8], point: u64, length: u64) -> io::Result<()> {
     let mut speeds = [NO_SPEED; 4104];
     if point <= 65535 {
         if length <= 4104 {
-            print_sweep(file, point as u16, &mut speeds[..length as usize]);
+            print_sweep(rt, file, point as u16, &mut speeds[..length as usize])?;
         }
     }
+    Ok(())
 }
 
-fn answer_all(file: &[u8], questions: u64) {
+fn answer_all(
+    rt: &impl Print,
+    input: &mut impl Read,
+    file: &[u8],
+    questions: u64,
+) -> io::Result<()> {
     let mut i: u64 = 0;
     while i < questions {
-        let point = read_number();
-        answer(file, point, read_number());
+        let point = read_number(input)?;
+        answer(rt, file, point, read_number(input)?)?;
         i += 1;
     }
+    Ok(())
 }
 
 // Reads a file of at most 65,536 bytes, and answers the questions that follow it.
-fn tell(questions: u64) {
-    let mut space = io::large_buffer();
-    let n = read_number();
+fn tell(rt: &impl Print, input: &mut impl Read, questions: u64) -> io::Result<()> {
+    let mut space = [0u8; 65536];
+    let n = read_number(input)?;
     if n <= 65536 {
-        io::read_full(0, &mut space[..n as usize]);
-        answer_all(&space[..n as usize], questions);
+        read_full(input, &mut space[..n as usize])?;
+        answer_all(rt, input, &space[..n as usize], questions)?;
     }
+    Ok(())
 }
 
-fn main() {
+fn main(rt: HostRuntime) -> io::Result<()> {
+    let mut input = rt.stdin();
     let mut files: u64 = 0;
     while files < MOST_FILES {
-        let questions = read_number();
+        let questions = read_number(&mut input)?;
         if questions == 0 {
-            return;
+            return Ok(());
         }
-        tell(questions);
+        tell(&rt, &mut input, questions)?;
         files += 1;
     }
+    Ok(())
 }

@@ -2,6 +2,11 @@
 // many train numbers are asked (8 bytes, low byte first), the file's length (8 bytes), the file, then the train numbers (8 bytes each).
 #![tactic(auto)]
 
+ghost use Rattle.std.specs.Io.{ReadsAtMost};
+
+use std::io;
+use std::io::Read;
+
 const MOST_FILES: u64 = 100000;
 
 fn wide(byte: u8) -> u64 {
@@ -18,16 +23,30 @@ fn number_of(bytes: &[u8; 8]) -> u64 {
     n
 }
 
-// 0 where the input has ended.
-fn read_number() -> u64 {
-    let mut bytes = [0u8; 8];
-    io::read_full(0, &mut bytes);
-    number_of(&bytes)
+// Reads until the part is full or the input has ended, and returns how many bytes it put at the part's start.
+fn read_full(input: &mut impl Read, part: &mut [u8]) -> io::Result<usize>
+    ensures { ReadsAtMost result part.new }
+{
+    let mut done = 0;
+    while done < part.len() {
+        let n = input.read(&mut part[done..])?;
+        if n == 0 {
+            break;
+        }
+        done += n;
+    }
+    Ok(done)
 }
 
-fn print_number(n: u64) {
-    io::write_all(1, b" ");
-    io::print_decimal(1, n);
+// 0 where the input has ended.
+fn read_number(input: &mut impl Read) -> io::Result<u64> {
+    let mut bytes = [0u8; 8];
+    read_full(input, &mut bytes)?;
+    Ok(number_of(&bytes))
+}
+
+fn print_number(rt: &impl Print, n: u64) -> io::Result<()> {
+    print!(rt; " {n}")
 }
 
 // Whether the part is what stands in the file at a place.
@@ -60,41 +79,46 @@ fn place_of(file: &[u8], part: &[u8]) -> usize {
     at
 }
 
-fn print_answers(file: &[u8], k: u64) {
+fn print_answers(rt: &impl Print, file: &[u8], k: u64) -> io::Result<()> {
     let part = line::train_record(file, k);
-    io::print_decimal(1, line::check_file(file));
-    print_number(line::check_train(file, k));
-    print_number(place_of(file, part) as u64);
-    print_number(part.len() as u64);
-    io::write_all(1, b"\n");
+    let number = line::check_file(file);
+    print!(rt; "{number}")?;
+    print_number(rt, line::check_train(file, k))?;
+    print_number(rt, place_of(file, part) as u64)?;
+    print_number(rt, part.len() as u64)?;
+    println!(rt)
 }
 
-fn answer(file: &[u8], asked: u64) {
+fn answer(rt: &impl Print, input: &mut impl Read, file: &[u8], asked: u64) -> io::Result<()> {
     let mut i: u64 = 0;
     while i < asked {
-        print_answers(file, read_number());
+        print_answers(rt, file, read_number(input)?)?;
         i += 1;
     }
+    Ok(())
 }
 
 // Reads a file of at most 65,536 bytes, which the train numbers follow, and answers for each of these.
-fn tell(asked: u64) {
-    let mut space = io::large_buffer();
-    let n = read_number();
+fn tell(rt: &impl Print, input: &mut impl Read, asked: u64) -> io::Result<()> {
+    let mut space = [0u8; 65536];
+    let n = read_number(input)?;
     if n <= 65536 {
-        io::read_full(0, &mut space[..n as usize]);
-        answer(&space[..n as usize], asked);
+        read_full(input, &mut space[..n as usize])?;
+        answer(rt, input, &space[..n as usize], asked)?;
     }
+    Ok(())
 }
 
-fn main() {
+fn main(rt: HostRuntime) -> io::Result<()> {
+    let mut input = rt.stdin();
     let mut files: u64 = 0;
     while files < MOST_FILES {
-        let asked = read_number();
+        let asked = read_number(&mut input)?;
         if asked == 0 {
-            return;
+            return Ok(());
         }
-        tell(asked);
+        tell(&rt, &mut input, asked)?;
         files += 1;
     }
+    Ok(())
 }

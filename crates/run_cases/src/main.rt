@@ -3,7 +3,11 @@
 // (8 bytes), the file, then the questions: the train number and the lengths of the buffers for speeds and times (8 bytes each).
 #![tactic(auto)]
 
+ghost use Rattle.std.specs.Io.{ReadsAtMost};
+
 use holds::HoldRecord;
+use std::io;
+use std::io::Read;
 
 const MOST_FILES: u64 = 100000;
 
@@ -30,11 +34,26 @@ fn number_of(bytes: &[u8; 8]) -> u64 {
     n
 }
 
+// Reads until the part is full or the input has ended, and returns how many bytes it put at the part's start.
+fn read_full(input: &mut impl Read, part: &mut [u8]) -> io::Result<usize>
+    ensures { ReadsAtMost result part.new }
+{
+    let mut done = 0;
+    while done < part.len() {
+        let n = input.read(&mut part[done..])?;
+        if n == 0 {
+            break;
+        }
+        done += n;
+    }
+    Ok(done)
+}
+
 // 0 where the input has ended.
-fn read_number() -> u64 {
+fn read_number(input: &mut impl Read) -> io::Result<u64> {
     let mut bytes = [0u8; 8];
-    io::read_full(0, &mut bytes);
-    number_of(&bytes)
+    read_full(input, &mut bytes)?;
+    Ok(number_of(&bytes))
 }
 
 fn turned(n: u64) -> u64 {
@@ -95,117 +114,152 @@ fn last_of(times: &[u64], n: usize) -> u64 {
     times[n - 1]
 }
 
-fn print_number(n: u64) {
-    io::write_all(1, b" ");
-    io::print_decimal(1, n);
+fn print_number(rt: &impl Print, n: u64) -> io::Result<()> {
+    print!(rt; " {n}")
 }
 
-fn print_sum(sum: u64) {
-    io::write_all(1, b" ");
-    io::print_hex(1, sum, 16);
+fn print_sum(rt: &impl Print, sum: u64) -> io::Result<()> {
+    print!(rt; " {sum:016x}")
 }
 
-fn print_buffers(speeds: &[u32], times: &[u64]) {
+fn print_buffers(rt: &impl Print, speeds: &[u32], times: &[u64]) -> io::Result<()> {
     let written = times_written(times);
-    print_number(speeds_written(speeds) as u64);
-    print_number(written as u64);
-    print_number(last_of(times, written));
-    print_sum(speeds_sum(speeds));
-    print_sum(times_sum(times));
+    print_number(rt, speeds_written(speeds) as u64)?;
+    print_number(rt, written as u64)?;
+    print_number(rt, last_of(times, written))?;
+    print_sum(rt, speeds_sum(speeds))?;
+    print_sum(rt, times_sum(times))
 }
 
-fn print_run(file: &[u8], k: u64, speeds: &mut [u32], times: &mut [u64]) {
+fn print_run(
+    rt: &impl Print,
+    file: &[u8],
+    k: u64,
+    speeds: &mut [u32],
+    times: &mut [u64],
+) -> io::Result<()> {
     let number = run::run(file, k, speeds, times);
-    io::write_all(1, b"run");
-    print_number(number);
-    print_buffers(speeds, times);
-    io::write_all(1, b"\n");
+    print!(rt; "run")?;
+    print_number(rt, number)?;
+    print_buffers(rt, speeds, times)?;
+    println!(rt)
 }
 
-fn print_record(hold: HoldRecord) {
+fn print_record(rt: &impl Print, hold: HoldRecord) -> io::Result<()> {
     let begins = hold.begins;
     let ends = hold.ends;
-    print_number(hold.blocks);
-    print_sum(times_sum(&begins));
-    print_sum(times_sum(&ends));
+    print_number(rt, hold.blocks)?;
+    print_sum(rt, times_sum(&begins))?;
+    print_sum(rt, times_sum(&ends))
 }
 
-fn print_hold(file: &[u8], k: u64, speeds: &mut [u32], times: &mut [u64]) {
+fn print_hold(
+    rt: &impl Print,
+    file: &[u8],
+    k: u64,
+    speeds: &mut [u32],
+    times: &mut [u64],
+) -> io::Result<()> {
     let answer = hold::hold(file, k, speeds, times);
-    io::write_all(1, b"hold");
-    print_number(answer.number);
-    print_buffers(speeds, times);
+    print!(rt; "hold")?;
+    print_number(rt, answer.number)?;
+    print_buffers(rt, speeds, times)?;
     let record = answer.hold;
-    print_record(record);
-    io::write_all(1, b"\n");
+    print_record(rt, record)?;
+    println!(rt)
 }
 
 // Lends the first entries of two buffers to the run call, as many as asked.
-fn lend_to_run(file: &[u8], k: u64, speeds_length: u64, times_length: u64) {
+fn lend_to_run(
+    rt: &impl Print,
+    file: &[u8],
+    k: u64,
+    speeds_length: u64,
+    times_length: u64,
+) -> io::Result<()> {
     let mut speeds = [NO_SPEED; 4104];
     let mut times = [NO_TIME; 4104];
     if speeds_length <= 4104 {
         if times_length <= 4104 {
             print_run(
+                rt,
                 file,
                 k,
                 &mut speeds[..speeds_length as usize],
                 &mut times[..times_length as usize],
-            );
+            )?;
         }
     }
+    Ok(())
 }
 
 // The same for the hold call.
-fn lend_to_hold(file: &[u8], k: u64, speeds_length: u64, times_length: u64) {
+fn lend_to_hold(
+    rt: &impl Print,
+    file: &[u8],
+    k: u64,
+    speeds_length: u64,
+    times_length: u64,
+) -> io::Result<()> {
     let mut speeds = [NO_SPEED; 4104];
     let mut times = [NO_TIME; 4104];
     if speeds_length <= 4104 {
         if times_length <= 4104 {
             print_hold(
+                rt,
                 file,
                 k,
                 &mut speeds[..speeds_length as usize],
                 &mut times[..times_length as usize],
-            );
+            )?;
         }
     }
+    Ok(())
 }
 
-fn answer(file: &[u8]) {
-    let k = read_number();
-    let speeds_length = read_number();
-    let times_length = read_number();
-    lend_to_run(file, k, speeds_length, times_length);
-    lend_to_hold(file, k, speeds_length, times_length);
+fn answer(rt: &impl Print, input: &mut impl Read, file: &[u8]) -> io::Result<()> {
+    let k = read_number(input)?;
+    let speeds_length = read_number(input)?;
+    let times_length = read_number(input)?;
+    lend_to_run(rt, file, k, speeds_length, times_length)?;
+    lend_to_hold(rt, file, k, speeds_length, times_length)
 }
 
-fn answer_all(file: &[u8], questions: u64) {
+fn answer_all(
+    rt: &impl Print,
+    input: &mut impl Read,
+    file: &[u8],
+    questions: u64,
+) -> io::Result<()> {
     let mut i: u64 = 0;
     while i < questions {
-        answer(file);
+        answer(rt, input, file)?;
         i += 1;
     }
+    Ok(())
 }
 
 // Reads a file of at most 65,536 bytes, and answers the questions that follow it.
-fn tell(questions: u64) {
-    let mut space = io::large_buffer();
-    let n = read_number();
+fn tell(rt: &impl Print, input: &mut impl Read, questions: u64) -> io::Result<()> {
+    let mut space = [0u8; 65536];
+    let n = read_number(input)?;
     if n <= 65536 {
-        io::read_full(0, &mut space[..n as usize]);
-        answer_all(&space[..n as usize], questions);
+        read_full(input, &mut space[..n as usize])?;
+        answer_all(rt, input, &space[..n as usize], questions)?;
     }
+    Ok(())
 }
 
-fn main() {
+fn main(rt: HostRuntime) -> io::Result<()> {
+    let mut input = rt.stdin();
     let mut files: u64 = 0;
     while files < MOST_FILES {
-        let questions = read_number();
+        let questions = read_number(&mut input)?;
         if questions == 0 {
-            return;
+            return Ok(());
         }
-        tell(questions);
+        tell(&rt, &mut input, questions)?;
         files += 1;
     }
+    Ok(())
 }

@@ -3,12 +3,15 @@
 #![tactic(auto)]
 
 ghost use Rattle.std.specs.Prelude.{◌≡◌};
+ghost use Rattle.std.specs.Io.{ReadsAtMost};
 ghost use Rattle.rules.specs.Calls.{added};
 ghost use Rattle.holds.specs.Values.{as_hold};
 ghost use Rattle.sheet.specs.Values.{as_sheet, as_addition};
 
 use holds::HoldRecord;
 use sheet::{Addition, Answer, HeadwayAnswer, PeriodAnswer, Sheet};
+use std::io;
+use std::io::Read;
 
 const MOST_CALLS: u64 = 100000;
 
@@ -26,52 +29,67 @@ fn number_of(bytes: &[u8; 8]) -> u64 {
     n
 }
 
+// Reads until the part is full or the input has ended, and returns how many bytes it put at the part's start.
+fn read_full(input: &mut impl Read, part: &mut [u8]) -> io::Result<usize>
+    ensures { ReadsAtMost result part.new }
+{
+    let mut done = 0;
+    while done < part.len() {
+        let n = input.read(&mut part[done..])?;
+        if n == 0 {
+            break;
+        }
+        done += n;
+    }
+    Ok(done)
+}
+
 // 0 where the input has ended.
-fn read_number() -> u64 {
+fn read_number(input: &mut impl Read) -> io::Result<u64> {
     let mut bytes = [0u8; 8];
-    io::read_full(0, &mut bytes);
-    number_of(&bytes)
+    read_full(input, &mut bytes)?;
+    Ok(number_of(&bytes))
 }
 
 // A value for every place, then how many of the first places differ from it, then these.
-fn read_places() -> [u64; 32] {
-    let value = read_number();
-    let count = read_number();
+fn read_places(input: &mut impl Read) -> io::Result<[u64; 32]> {
+    let value = read_number(input)?;
+    let count = read_number(input)?;
     let mut places = [value; 32];
     let mut b: usize = 0;
     while b < 32 {
         if count <= b as u64 {
-            return places;
+            return Ok(places);
         }
-        places[b] = read_number();
+        places[b] = read_number(input)?;
         b += 1;
     }
-    places
+    Ok(places)
 }
 
-fn read_hold() -> HoldRecord {
-    let blocks = read_number();
-    let begins = read_places();
-    let ends = read_places();
-    HoldRecord {
+fn read_hold(input: &mut impl Read) -> io::Result<HoldRecord> {
+    let blocks = read_number(input)?;
+    let begins = read_places(input)?;
+    let ends = read_places(input)?;
+    Ok(HoldRecord {
         blocks,
         begins,
         ends,
-    }
+    })
 }
 
 // A sheet that no call made.
-fn read_sheet() -> Sheet {
-    let blocks = read_number();
-    let trains = read_number();
-    let free = read_places();
-    let first = read_places();
-    Sheet {
+fn read_sheet(input: &mut impl Read) -> io::Result<Sheet> {
+    let blocks = read_number(input)?;
+    let trains = read_number(input)?;
+    let free = read_places(input)?;
+    let first = read_places(input)?;
+    Ok(Sheet {
         blocks,
         trains,
         free,
         first,
-    }
+    })
 }
 
 // One number for the sheet's 66, places beyond the block count included.
@@ -96,69 +114,68 @@ fn turned(n: u64) -> u64 {
     (n << 7) | (n >> 57)
 }
 
-fn print_number(n: u64) {
-    io::write_all(1, b" ");
-    io::print_decimal(1, n);
+fn print_number(rt: &impl Print, n: u64) -> io::Result<()> {
+    print!(rt; " {n}")
 }
 
-fn print_sheet(sheet: Sheet) {
-    io::write_all(1, b"sheet");
-    print_number(sheet.blocks);
-    print_number(sheet.trains);
-    print_places(&sheet.free);
-    print_places(&sheet.first);
-    io::write_all(1, b"\n");
+fn print_sheet(rt: &impl Print, sheet: Sheet) -> io::Result<()> {
+    print!(rt; "sheet")?;
+    print_number(rt, sheet.blocks)?;
+    print_number(rt, sheet.trains)?;
+    print_places(rt, &sheet.free)?;
+    print_places(rt, &sheet.first)?;
+    println!(rt)
 }
 
-fn print_places(places: &[u64; 32]) {
+fn print_places(rt: &impl Print, places: &[u64; 32]) -> io::Result<()> {
     let mut b = 0;
     while b < 32 {
-        print_number(places[b]);
+        print_number(rt, places[b])?;
         b += 1;
     }
+    Ok(())
 }
 
-fn print_answer(answer: Answer, sheet: Sheet) {
+fn print_answer(rt: &impl Print, answer: Answer, sheet: Sheet) -> io::Result<()> {
     match answer {
         Answer::Accepted { start, block } => {
-            io::write_all(1, b"accepted");
-            print_number(start);
-            print_number(block);
+            print!(rt; "accepted")?;
+            print_number(rt, start)?;
+            print_number(rt, block)?;
         }
         Answer::Refused(number) => {
-            io::write_all(1, b"refused");
-            print_number(number);
+            print!(rt; "refused")?;
+            print_number(rt, number)?;
         }
     }
-    io::write_all(1, b" left ");
-    io::print_hex(1, checksum(sheet), 16);
-    io::write_all(1, b"\n");
+    let left = checksum(sheet);
+    println!(rt; " left {left:016x}")
 }
 
-fn print_headway(answer: HeadwayAnswer) {
+fn print_headway(rt: &impl Print, answer: HeadwayAnswer) -> io::Result<()> {
     match answer {
         HeadwayAnswer::Headway(time) => {
-            io::write_all(1, b"headway");
-            print_number(time);
+            print!(rt; "headway")?;
+            print_number(rt, time)?;
         }
         HeadwayAnswer::Refused(number) => {
-            io::write_all(1, b"no headway");
-            print_number(number);
+            print!(rt; "no headway")?;
+            print_number(rt, number)?;
         }
     }
-    io::write_all(1, b"\n");
+    println!(rt)
 }
 
-fn print_period(answer: PeriodAnswer) {
+fn print_period(rt: &impl Print, answer: PeriodAnswer) -> io::Result<()> {
     if answer.number == 0 {
-        io::write_all(1, b"period");
-        print_number(answer.period);
-        print_number(answer.percent);
+        print!(rt; "period")?;
+        print_number(rt, answer.period)?;
+        print_number(rt, answer.percent)?;
     } else {
-        io::write_all(1, b"no period");
-        print_number(answer.number);
+        print!(rt; "no period")?;
+        print_number(rt, answer.number)?;
     }
-    io::write_all(1, b"\n");
+    println!(rt)
 }
 
 // An addition by the call that is lent the sheet.
@@ -173,59 +190,61 @@ fn lend(sheet: Sheet, hold: HoldRecord) -> Addition
     }
 }
 
-fn open() -> Sheet {
-    let opening = sheet::open_sheet(read_number());
-    io::write_all(1, b"opened");
-    print_number(opening.number);
-    io::write_all(1, b"\n");
-    opening.sheet
+fn open(rt: &impl Print, input: &mut impl Read) -> io::Result<Sheet> {
+    let opening = sheet::open_sheet(read_number(input)?);
+    print!(rt; "opened")?;
+    print_number(rt, opening.number)?;
+    println!(rt)?;
+    Ok(opening.sheet)
 }
 
-fn add(sheet: Sheet) -> Sheet {
-    let done = lend(sheet, read_hold());
+fn add(rt: &impl Print, input: &mut impl Read, sheet: Sheet) -> io::Result<Sheet> {
+    let done = lend(sheet, read_hold(input)?);
     let answer = done.answer;
     let after = done.sheet;
-    print_answer(answer, after);
-    after
+    print_answer(rt, answer, after)?;
+    Ok(after)
 }
 
-fn headway() {
-    let first = read_hold();
-    let second = read_hold();
-    print_headway(sheet::headway(first, second));
+fn headway(rt: &impl Print, input: &mut impl Read) -> io::Result<()> {
+    let first = read_hold(input)?;
+    let second = read_hold(input)?;
+    print_headway(rt, sheet::headway(first, second))
 }
 
 // The sheet after one call.
-fn called(kind: u64, sheet: Sheet) -> Sheet {
+fn called(rt: &impl Print, input: &mut impl Read, kind: u64, sheet: Sheet) -> io::Result<Sheet> {
     match kind {
-        1 => open(),
-        2 => add(sheet),
+        1 => open(rt, input),
+        2 => add(rt, input, sheet),
         3 => {
-            headway();
-            sheet
+            headway(rt, input)?;
+            Ok(sheet)
         }
-        4 => read_sheet(),
+        4 => read_sheet(input),
         6 => {
-            print_period(sheet::period(sheet));
-            sheet
+            print_period(rt, sheet::period(sheet))?;
+            Ok(sheet)
         }
         _ => {
-            print_sheet(sheet);
-            sheet
+            print_sheet(rt, sheet)?;
+            Ok(sheet)
         }
     }
 }
 
-fn main() {
+fn main(rt: HostRuntime) -> io::Result<()> {
+    let mut input = rt.stdin();
     let opening = sheet::open_sheet(1);
     let mut sheet = opening.sheet;
     let mut calls: u64 = 0;
     while calls < MOST_CALLS {
-        let kind = read_number();
+        let kind = read_number(&mut input)?;
         if kind == 0 {
-            return;
+            return Ok(());
         }
-        sheet = called(kind, sheet);
+        sheet = called(&rt, &mut input, kind, sheet)?;
         calls += 1;
     }
+    Ok(())
 }

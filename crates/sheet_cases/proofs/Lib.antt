@@ -1,2 +1,0 @@
-pub mod AddCall
-pub mod Lent
