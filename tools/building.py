@@ -25,6 +25,7 @@ class Product(NamedTuple):
     path: Path
     crate: str
     word: str                           # what rt is told in the crate's folder
+    left: str                           # the name under which rt leaves it
 
     @property
     def folder(self):
@@ -32,12 +33,11 @@ class Product(NamedTuple):
 
     @property
     def made(self):
-        """Where rt leaves it."""
-        return self.folder / "out" / self.path.name
+        return self.folder / "out" / self.left
 
 
-PROGRAM = Product(TARGET / "bin" / "sheet_program", "sheet_program", "run")
-LIBRARY = Product(TARGET / "staticlib" / "libvellumrill.a", "vellumrill", "lib")
+PROGRAM = Product(TARGET / "bin" / "sheet_program", "sheet_program", "run", "sheet_program")
+LIBRARY = Product(TARGET / "staticlib" / "libvellumrill.a", "vellumrill_c", "lib", "libvellumrill_c.a")
 
 
 # ------------------------------------------------------------ sources
@@ -48,7 +48,7 @@ def listed_crates():
     for line in (TOP / "crates.txt").read_text().splitlines():
         name, colon, stands_on = line.split("#")[0].partition(":")
         if colon:
-            crates[name.strip()] = stands_on.split()
+            crates[name.split()[0]] = stands_on.split()     # a word behind the name tells its kind
     return crates
 
 

@@ -1,4 +1,4 @@
-// The calls for C and Rust. A slice crosses as a pointer and its length. Number 0 means accepted.
+// The calls for C and Rust, which the crate vellumrill_c exports. Number 0 means accepted.
 #![tactic(auto)]
 
 ghost use Rattle.std.specs.Prelude.{◌≡◌, length, take};
@@ -46,32 +46,28 @@ pub struct Sizes {
 }
 
 // The file's rules.
-#[unsafe(no_mangle)]
-pub extern "C" fn vr_check_file(file: &[u8]) -> u64
+pub fn vr_check_file(file: &[u8]) -> u64
     ensures { result ≡ file_refusal file.now }
 {
     line::check_file(file)
 }
 
 // The file's rules and 10.
-#[unsafe(no_mangle)]
-pub extern "C" fn vr_check_train(file: &[u8], k: u64) -> u64
+pub fn vr_check_train(file: &[u8], k: u64) -> u64
     ensures { result ≡ train_refusal file.now k }
 {
     line::check_train(file, k)
 }
 
 // The file's rules and 10. The record of train k is the part of the file that begins at byte `start` and has `length` bytes; 0 and 0 on a refusal.
-#[unsafe(no_mangle)]
-pub extern "C" fn vr_train_record(file: &[u8], k: u64) -> RecordPlace
+pub fn vr_train_record(file: &[u8], k: u64) -> RecordPlace
     ensures { as_record_place result ≡ record_place file.now k }
 {
     line::record_place(file, k)
 }
 
 // The sizes of an accepted file, by the file's rules.
-#[unsafe(no_mangle)]
-pub extern "C" fn vr_sizes(file: &[u8]) -> Sizes
+pub fn vr_sizes(file: &[u8]) -> Sizes
     ensures { result ≡ file_sizes file.now }
 {
     let opened = line::open_file(file);
@@ -87,8 +83,7 @@ pub extern "C" fn vr_sizes(file: &[u8]) -> Sizes
 
 // The run call, by the file's rules, 10 and 11. Of an accepted call the first P entries of `speeds` are the run, those of `times` its arrivals; no permitted
 // rival reaches a point before. A refusal leaves both buffers as they came.
-#[unsafe(no_mangle)]
-pub extern "C" fn vr_run(file: &[u8], k: u64, speeds: &mut [u32], times: &mut [u64]) -> u64
+pub fn vr_run(file: &[u8], k: u64, speeds: &mut [u32], times: &mut [u64]) -> u64
     ensures number { result ≡ run_refusal file.now k (length speeds.old) (length times.old) }
     ensures speeds { speeds.new ≡ speeds_after file.now k speeds.old times.old }
     ensures times { times.new ≡ times_after file.now k speeds.old times.old }
@@ -100,8 +95,7 @@ pub extern "C" fn vr_run(file: &[u8], k: u64, speeds: &mut [u32], times: &mut [u
 }
 
 // The hold call, by the file's rules, 10 and 11. The buffers end as after the run call.
-#[unsafe(no_mangle)]
-pub extern "C" fn vr_hold(file: &[u8], k: u64, speeds: &mut [u32], times: &mut [u64]) -> HoldAnswer
+pub fn vr_hold(file: &[u8], k: u64, speeds: &mut [u32], times: &mut [u64]) -> HoldAnswer
     ensures answer { as_hold_answer result ≡ held file.now k (length speeds.old) (length times.old) }
     ensures speeds { speeds.new ≡ speeds_after file.now k speeds.old times.old }
     ensures times { times.new ≡ times_after file.now k speeds.old times.old }
@@ -110,8 +104,7 @@ pub extern "C" fn vr_hold(file: &[u8], k: u64, speeds: &mut [u32], times: &mut [
 }
 
 // Opens a sheet where it lies, rule 12. Every list of adding calls from it meets the third demand. A refusal leaves the sheet as it was.
-#[unsafe(no_mangle)]
-pub extern "C" fn vr_open(blocks: u64, sheet: &mut Sheet) -> u64
+pub fn vr_open(blocks: u64, sheet: &mut Sheet) -> u64
     ensures { (result ≡ (opened blocks).number)
         × (as_sheet sheet.new ≡ opened_into blocks (as_sheet sheet.old))
         × (result ≡ 0 → ThirdDemand blocks (as_sheet sheet.new)) }
@@ -123,8 +116,7 @@ pub extern "C" fn vr_open(blocks: u64, sheet: &mut Sheet) -> u64
 }
 
 // The adding call, rules 12 to 14, on a sheet with any contents. The sheet is altered where it lies; a refusal leaves it as it was.
-#[unsafe(no_mangle)]
-pub extern "C" fn vr_add(sheet: &mut Sheet, hold: &HoldRecord) -> Added
+pub fn vr_add(sheet: &mut Sheet, hold: &HoldRecord) -> Added
     ensures { (result ≡ added_by_number (added (as_sheet sheet.old) (as_hold hold.now)).answer)
         × (as_sheet sheet.new ≡ (added (as_sheet sheet.old) (as_hold hold.now)).sheet) }
 {
@@ -136,8 +128,7 @@ pub extern "C" fn vr_add(sheet: &mut Sheet, hold: &HoldRecord) -> Added
 }
 
 // The second train's start on a sheet of these two, rules 12 to 14.
-#[unsafe(no_mangle)]
-pub extern "C" fn vr_headway(first: &HoldRecord, second: &HoldRecord) -> HeadwayAnswer
+pub fn vr_headway(first: &HoldRecord, second: &HoldRecord) -> HeadwayAnswer
     ensures { result ≡ headway_by_number (headway (as_hold first.now) (as_hold second.now)) }
 {
     let earlier = *first;
@@ -146,8 +137,7 @@ pub extern "C" fn vr_headway(first: &HoldRecord, second: &HoldRecord) -> Headway
 }
 
 // The shortest period with which a sheet is repeated, and its percentage of an hour, on a sheet with any contents: rule 12.
-#[unsafe(no_mangle)]
-pub extern "C" fn vr_period(sheet: &Sheet) -> PeriodAnswer
+pub fn vr_period(sheet: &Sheet) -> PeriodAnswer
     ensures { (as_period_answer result ≡ period_answer (as_sheet sheet.now))
         × HourPattern (as_sheet sheet.now) (as_period_answer result) }
 {
@@ -157,8 +147,7 @@ pub extern "C" fn vr_period(sheet: &Sheet) -> PeriodAnswer
 
 // The least start from `low` to `high` that has a place among the placed rows, of which each has an entry of `starts` and, in `begins` and `ends`, as
 // many entries as the hold record has blocks: rules 12, 14, 16 and 17, whatever the record and the slices hold.
-#[unsafe(no_mangle)]
-pub extern "C" fn vr_path(
+pub fn vr_path(
     hold: &HoldRecord,
     starts: &[u64],
     begins: &[u64],
@@ -176,13 +165,7 @@ pub extern "C" fn vr_path(
 
 // The start, the running time and the block of each train of a file: the file's rules, then 11 where a slice has fewer places than the file has
 // trains. A refusal leaves the slices as they came, and places behind the trains keep their values.
-#[unsafe(no_mangle)]
-pub extern "C" fn vr_rows(
-    file: &[u8],
-    starts: &mut [u64],
-    runs: &mut [u64],
-    blocks: &mut [u64],
-) -> RowsAnswer
+pub fn vr_rows(file: &[u8], starts: &mut [u64], runs: &mut [u64], blocks: &mut [u64]) -> RowsAnswer
     ensures answer { result
         ≡ rows_answer
         (rows_refusal file.now (length starts.old) (length runs.old) (length blocks.old))
@@ -202,8 +185,7 @@ pub extern "C" fn vr_rows(
 }
 
 // The sheet of a whole file as text: the file's rules, then 11 where the text does not fit. A refusal leaves the lent bytes as they came.
-#[unsafe(no_mangle)]
-pub extern "C" fn vr_study(file: &[u8], text: &mut [u8]) -> WriteAnswer
+pub fn vr_study(file: &[u8], text: &mut [u8]) -> WriteAnswer
     ensures answer { result ≡ write_answer (study_refusal file.now (length text.old)) (sheet_text file.now) }
     ensures text { text.new
         ≡ lent_after (study_refusal file.now (length text.old)) (sheet_text file.now) text.old }
@@ -214,8 +196,7 @@ pub extern "C" fn vr_study(file: &[u8], text: &mut [u8]) -> WriteAnswer
 
 // The speed-distance diagram of train k: the file's rules and 10, then 11 where the lent bytes have no room for every point. The bytes carry the
 // run's own figures, and those behind them keep their values. A refusal leaves every byte as it came.
-#[unsafe(no_mangle)]
-pub extern "C" fn vr_diagram(file: &[u8], k: u64, bytes: &mut [u8]) -> WriteAnswer
+pub fn vr_diagram(file: &[u8], k: u64, bytes: &mut [u8]) -> WriteAnswer
     ensures answer { result
         ≡ write_answer (diagram_refusal file.now k (length bytes.old))
         (diagram_bytes (line_of file.now) (train_of file.now k)) }
