@@ -299,7 +299,7 @@ class Closure(InTree):
     def test_closure(self):
         self.assertEqual(self.ask("sorted(building.closure('sheet_program'))"), "['low', 'middle', 'sheet_program']")
         self.assertEqual(self.ask("sorted(building.closure('other'))"), "['low', 'other']")
-        self.assertIn("study_text", building.closure("vellumrill"))
+        self.assertIn("study_text", building.closure("vellumrill_c"))
         self.assertNotIn("libc", building.closure("sheet_program"))
 
     def test_newest_source(self):
