@@ -36,7 +36,7 @@ if mode == "change":
     time.sleep(0.1)
     Path("crates/low/src/lib.rt").touch()
 if mode not in ("leave", "fail"):
-    made = Path("crates", crate, "out", "sheet_program")
+    made = Path("crates", crate, "out", "sheet_program" if sys.argv[1] == "run" else f"lib{crate}.a")
     made.parent.mkdir(exist_ok=True)
     made.write_text("#!/bin/sh\\nprintf 'train start run block\\\\n1 0 5 0\\\\n'\\n")
     made.chmod(0o755)
@@ -54,9 +54,11 @@ class Tree:
               "crate sheet_program: modules loaded=1 checked=3\nlogic=proved functions=1\nrefused 1\n")
     FAILED = ("crate low: modules loaded=9 checked=0\nlogic=proved functions=1\nsrc/lib.rt:3:7: error[x]: wrong\n"
               "fn middle::three: not proved\nlogic=not-proved\nrt: the library middle did not build, so nothing above it was checked\n")
-    CRATES = "# a comment: none\nlow:\nother: low\nmiddle: low   # more\nsheet_program: middle\n"
+    CRATES = ("# a comment: none\nlow:\nother: low\nmiddle: low   # more\nsheet_program: middle io\n"
+              "vellumrill_c staticlib: low io\n")
     FILES = ("crates/low/src/lib.rt", "crates/other/src/lib.rt", "crates/middle/src/lib.rt", "crates/middle/src/inner/deep.rt",
-             "crates/middle/must-fail/wrong.edit", "crates/sheet_program/src/main.rt", "crates/sheet_program/stdin")
+             "crates/middle/must-fail/wrong.edit", "crates/sheet_program/src/main.rt", "crates/sheet_program/stdin",
+             "crates/vellumrill_c/src/lib.rt")
 
     def __init__(self, top):
         self.top = top
@@ -154,7 +156,7 @@ class Building(InTree):
 
     def test_newer_sources(self):
         self.check_built(1)
-        for times, name in enumerate(("crates.txt", "crates/low/src/lib.rt", "crates/low/src", "crates/middle",
+        for times, name in enumerate(("crates.txt", "crates/low/src/lib.rt", "crates/low/src", "crates/middle/src/inner",
                                       "crates/sheet_program/stdin", "crates/middle/src/inner/deep.rt"), 2):
             with self.subTest(name):
                 self.tree.touch(name)
@@ -169,7 +171,8 @@ class Building(InTree):
 
     def test_what_is_no_source_of_the_program(self):
         self.check_built(1)
-        for name in ("crates/other/src/lib.rt", "crates/middle/must-fail/wrong.edit", "tools/building.py", "include/vellumrill.h"):
+        for name in ("crates/other/src/lib.rt", "crates/middle/must-fail/wrong.edit", "tools/building.py", "include/vellumrill.h",
+                     "crates/low", "crates/sheet_program/out"):
             self.tree.touch(name)
         self.check_not_built(1)
 
@@ -288,6 +291,27 @@ class Building(InTree):
         self.check_ended(signal.SIGTERM, 143)
 
 
+class Archive(InTree):
+    def make(self):
+        return subprocess.run([self.tree.top / "tools" / "staticlib"], capture_output=True, text=True, timeout=SECONDS,
+                              env=self.tree.environment)
+
+    def test_made_anew_each_time(self):
+        archive = self.tree.top / "target" / "staticlib" / "libvellumrill.a"
+        for times in (1, 2):
+            done = self.make()
+            self.assertEqual((done.returncode, done.stdout), (0, "target/staticlib/libvellumrill.a is made\n"))
+            self.assertEqual(self.tree.calls(), times * ["lib vellumrill_c"])
+            self.assertTrue(archive.exists())
+
+    def test_failed(self):
+        self.tree.set_mode("fail")
+        done = self.make()
+        self.assertEqual((done.returncode, done.stdout), (2, ""))
+        self.assertIn("staticlib: target/staticlib/libvellumrill.a was not built: `rt lib` in crates/vellumrill_c ended with status 1",
+                      done.stderr)
+
+
 class Closure(InTree):
     """The functions that other tests ask."""
 
@@ -299,8 +323,8 @@ class Closure(InTree):
     def test_closure(self):
         self.assertEqual(self.ask("sorted(building.closure('sheet_program'))"), "['low', 'middle', 'sheet_program']")
         self.assertEqual(self.ask("sorted(building.closure('other'))"), "['low', 'other']")
+        self.assertEqual(self.ask("sorted(building.closure('vellumrill_c'))"), "['low', 'vellumrill_c']")
         self.assertIn("study_text", building.closure("vellumrill_c"))
-        self.assertNotIn("libc", building.closure("sheet_program"))
 
     def test_newest_source(self):
         self.tree.touch("crates/other/src/lib.rt")

@@ -64,12 +64,15 @@ def closure(crate):
 
 
 def sources(crate):
-    """crates.txt, and the files and folders of the crates that this one stands on. The folders tell when a file goes away."""
+    """crates.txt, and the files and folders of the crates that this one stands on. The folders tell when a file goes away; a crate's own
+    folder does not, since rt makes the folder `out` in it anew."""
     yield TOP / "crates.txt"
     for name in sorted(closure(crate)):
-        for folder, inner, files in os.walk(TOP / "crates" / name):
+        top = TOP / "crates" / name
+        for folder, inner, files in os.walk(top):
             inner[:] = [name for name in inner if name not in ("must-fail", "out")]
-            yield Path(folder)
+            if Path(folder) != top:
+                yield Path(folder)
             yield from (Path(folder, file) for file in files)
 
 
@@ -183,17 +186,10 @@ def take(product):
     os.replace(beside, product.path)
 
 
-def make_folders(product):
-    """rt writes into these folders; were they made during the build, each crate's own folder would be newer than the product."""
-    for name in closure(product.crate):
-        (TOP / "crates" / name / "out").mkdir(exist_ok=True)
-
-
 def build(product, rt, lock, say):
     log = log_of(product.crate)
     say(f"{why(product)}, so it is proved and built now; the first time this takes some minutes, once."
         f" {shown(log)} has all that rt prints")
-    make_folders(product)
     log.touch()
     began = changed(log)
     try:

@@ -16,7 +16,7 @@ unfolding clear_of
 returns-then-not-leaves_before c = sym (every-broken _ _ _ (search rules) (failed c.leaves_before.ensures (ap not c.if-not-leaves_before.true)))
 
 pub loop-b-preserved : goal.loop-b-preserved
-loop-b-preserved c = (search rules, search rules, every_more _ _ c.«loop-b».invariant.2 (passed c.leaves_before.ensures (ap not c.if-not-leaves_before.false)))
+loop-b-preserved c = (search rules, search rules, every_more _ _ c.loop-b.invariant.2 (passed c.leaves_before.ensures (ap not c.if-not-leaves_before.false)))
 
 pub returns : goal.returns
 unfolding clear_of

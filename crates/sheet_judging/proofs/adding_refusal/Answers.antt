@@ -34,13 +34,13 @@ pub returns-then-not-sheet_kept : goal.returns-then-not-sheet_kept
 returns-then-not-sheet_kept c = breaks_12 _ _ c.sheet_kept.ensures (ap not c.if-not-sheet_kept.true)
 
 pub returns-then-trains-eq-MOST_TRAINS : goal.returns-then-trains-eq-MOST_TRAINS
-returns-then-trains-eq-MOST_TRAINS c = breaks_13 _ _ c.sheet_kept.ensures (ap not c.«if-not-sheet_kept».false) c.if-trains-eq-MOST_TRAINS.true
+returns-then-trains-eq-MOST_TRAINS c = breaks_13 _ _ c.sheet_kept.ensures (ap not c.if-not-sheet_kept.false) c.if-trains-eq-MOST_TRAINS.true
 
 pub hold_kept-requires : goal.hold_kept-requires
-hold_kept-requires c = ((rule_12 _).0 (passed c.sheet_kept.ensures (ap not c.«if-not-sheet_kept».false))).blocks-most
+hold_kept-requires c = ((rule_12 _).0 (passed c.sheet_kept.ensures (ap not c.if-not-sheet_kept.false))).blocks-most
 
 pub returns-then-not-hold_kept : goal.returns-then-not-hold_kept
-returns-then-not-hold_kept c = breaks_14 _ _ c.sheet_kept.ensures (ap not c.«if-not-sheet_kept».false) c.«if-trains-eq-MOST_TRAINS».false c.hold_kept.ensures (ap not c.if-not-hold_kept.true)
+returns-then-not-hold_kept c = breaks_14 _ _ c.sheet_kept.ensures (ap not c.if-not-sheet_kept.false) c.if-trains-eq-MOST_TRAINS.false c.hold_kept.ensures (ap not c.if-not-hold_kept.true)
 
 pub returns : goal.returns
-returns c = breaks_none _ _ c.sheet_kept.ensures (ap not c.«if-not-sheet_kept».false) c.«if-trains-eq-MOST_TRAINS».false c.hold_kept.ensures (ap not c.if-not-hold_kept.false)
+returns c = breaks_none _ _ c.sheet_kept.ensures (ap not c.if-not-sheet_kept.false) c.if-trains-eq-MOST_TRAINS.false c.hold_kept.ensures (ap not c.if-not-hold_kept.false)

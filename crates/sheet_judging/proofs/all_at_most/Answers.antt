@@ -13,7 +13,7 @@ pub returns-then-bound-times : goal.returns-then-bound-times
 returns-then-bound-times c = sym (every-broken _ _ _ (search rules) (lt-leb _ _ c.if-bound-times.true))
 
 pub loop-b-preserved : goal.loop-b-preserved
-loop-b-preserved c = (search rules, every_more _ _ c.«loop-b».invariant.1 (le-leb _ _ c.if-bound-times.false))
+loop-b-preserved c = (search rules, every_more _ _ c.loop-b.invariant.1 (le-leb _ _ c.if-bound-times.false))
 
 pub returns : goal.returns
 returns c = let inv = c.loop-b.invariant in

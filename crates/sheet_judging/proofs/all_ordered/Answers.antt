@@ -13,7 +13,7 @@ pub returns-then-ends-b : goal.returns-then-ends-b
 returns-then-ends-b c = sym (every-broken _ _ _ (search rules) (le-ltb _ _ c.if-ends-b.true))
 
 pub loop-b-preserved : goal.loop-b-preserved
-loop-b-preserved c = (search rules, every_more _ _ c.«loop-b».invariant.1 (lt-ltb _ _ c.if-ends-b.false))
+loop-b-preserved c = (search rules, every_more _ _ c.loop-b.invariant.1 (lt-ltb _ _ c.if-ends-b.false))
 
 pub returns : goal.returns
 returns c = let inv = c.loop-b.invariant in

@@ -30,7 +30,7 @@ pub returns-then-count-blocks : goal.returns-then-count-blocks
 returns-then-count-blocks c = other_count _ _ c.if-count-blocks.true
 
 pub returns-then-not-all_ordered : goal.returns-then-not-all_ordered
-returns-then-not-all_ordered c = unordered _ _ c.«if-count-blocks».false (failed c.all_ordered.ensures (ap not c.if-not-all_ordered.true))
+returns-then-not-all_ordered c = unordered _ _ c.if-count-blocks.false (failed c.all_ordered.ensures (ap not c.if-not-all_ordered.true))
 
 pub returns : goal.returns
-returns c = by_ends _ _ c.«if-count-blocks».false (passed c.all_ordered.ensures (ap not c.if-not-all_ordered.false)) c.all_at_most.ensures
+returns c = by_ends _ _ c.if-count-blocks.false (passed c.all_ordered.ensures (ap not c.if-not-all_ordered.false)) c.all_at_most.ensures

@@ -2,6 +2,7 @@
 use Prim.Native.Nat.{◌*◌, ◌^◌, ◌≤◌, ◌<◌}
 use mathlib.Core.Bool.{Bool, true, false}
 use mathlib.Core.Path.{◌≡◌}
+use native.Mathlib.Omega.{arith}
 use lib.Dec.{leb, ltb}
 use borrow.Author.Tests.{le-leb, lt-leb, eq-eqb, ne_eqb}
 use Rattle.rules.specs.Count.{◌and◌, every}
@@ -41,7 +42,7 @@ pub returns-then-not-count_kept : goal.returns-then-not-count_kept
 returns-then-not-count_kept c = wrong_count _ (failed c.count_kept.ensures (ap not c.if-not-count_kept.true))
 
 pub returns-then-trains-gt-MOST_TRAINS : goal.returns-then-trains-gt-MOST_TRAINS
-returns-then-trains-gt-MOST_TRAINS c = too_many _ (passed c.count_kept.ensures (ap not c.«if-not-count_kept».false)) c.if-trains-gt-MOST_TRAINS.true
+returns-then-trains-gt-MOST_TRAINS c = too_many _ (passed c.count_kept.ensures (ap not c.if-not-count_kept.false)) c.if-trains-gt-MOST_TRAINS.true
 
 pub all_at_most-requires : goal.all_at_most-requires
 all_at_most-requires c =
@@ -51,12 +52,12 @@ all_at_most-requires c =
 pub returns-then-not-all_at_most : goal.returns-then-not-all_at_most
 returns-then-not-all_at_most c =
     let counted : count_rule c.args.blocks ≡ true = (passed c.count_kept.ensures (ap not c.if-not-count_kept.false)) in
-    too_late _ counted c.«if-trains-gt-MOST_TRAINS».false (failed c.all_at_most.ensures (ap not c.if-not-all_at_most.true))
+    too_late _ counted c.if-trains-gt-MOST_TRAINS.false (failed c.all_at_most.ensures (ap not c.if-not-all_at_most.true))
 
 pub returns-then-trains-eq0 : goal.returns-then-trains-eq0
 returns-then-trains-eq0 c =
     let counted : count_rule c.args.blocks ≡ true = (passed c.count_kept.ensures (ap not c.if-not-count_kept.false)) in
-    no_train_lem _ counted c.«if-trains-gt-MOST_TRAINS».false (passed c.all_at_most.ensures (ap not c.«if-not-all_at_most».false)) c.if-trains-eq0.true
+    no_train_lem _ counted c.if-trains-gt-MOST_TRAINS.false (passed c.all_at_most.ensures (ap not c.if-not-all_at_most.false)) c.if-trains-eq0.true
 
 pub all_ordered-requires : goal.all_ordered-requires
 all_ordered-requires c =
@@ -66,4 +67,4 @@ all_ordered-requires c =
 pub returns : goal.returns
 returns c =
     let counted : count_rule c.args.blocks ≡ true = (passed c.count_kept.ensures (ap not c.if-not-count_kept.false)) in
-    by_first _ counted c.«if-trains-gt-MOST_TRAINS».false (passed c.all_at_most.ensures (ap not c.«if-not-all_at_most».false)) c.«if-trains-eq0».false c.all_ordered.ensures
+    by_first _ counted c.if-trains-gt-MOST_TRAINS.false (passed c.all_at_most.ensures (ap not c.if-not-all_at_most.false)) (λ z. omega arith) c.all_ordered.ensures

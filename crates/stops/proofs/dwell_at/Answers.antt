@@ -20,10 +20,10 @@ pub returns-then-number-lt64 : goal.returns-then-number-lt64
 unfolding dwell_here
 returns-then-number-lt64 c = let a = c.args in
     let beside = used-at a.dwells.now 64 {s = a.stop.number} (omega arith) in
-    rw (eq-eqb _ _ c.«if-stop-i».false, ne_eqb _ _ c.«if-i-eq0».false, beside, c.wide64.ensures.0)
+    rw (eq-eqb _ _ c.if-stop-i.false, ne_eqb _ _ c.if-i-eq0.false, beside, c.wide64.ensures.0)
 
 pub returns : goal.returns
 unfolding dwell_here
 returns c = let a = c.args in
     let none : entry (used a.dwells.now 64) a.stop.number ≡ 0 = get_or-eq_default (used a.dwells.now 64) 0 (rw length-row (omega arith)) in
-    rw (eq-eqb _ _ c.«if-stop-i».false, ne_eqb _ _ c.«if-i-eq0».false, none)
+    rw (eq-eqb _ _ c.if-stop-i.false, ne_eqb _ _ c.if-i-eq0.false, none)

@@ -11,7 +11,7 @@ loop-s-init c = refl
 pub returns-then-i-size : goal.returns-then-i-size
 returns-then-i-size c =
     let in_use_lem : c.loop-s.s < min c.args.count 64 = (omega (arith, c.least-end.ensures, c.loop-s-test.true)) in
-    let o = c.«loop-s» in
+    let o = c.loop-s in
     let a = c.args in
     let within = in_use_lem in
     from_there _ (used-there a.stops.now a.count within)
@@ -20,7 +20,7 @@ returns-then-i-size c =
 pub loop-s-preserved : goal.loop-s-preserved
 loop-s-preserved c =
     let in_use_lem : c.loop-s.s < min c.args.count 64 = (omega (arith, c.least-end.ensures, c.loop-s-test.true)) in
-    let o = c.«loop-s» in
+    let o = c.loop-s in
     let a = c.args in
     let within = in_use_lem in
     sym (from_passed _ (used-there a.stops.now a.count within)

@@ -7,7 +7,7 @@ use Rattle.stops.proofs.stop_number.Goals as goal
 
 pub returns-then-number-least : goal.returns-then-number-least
 returns-then-number-least c = let a = c.args in
-    let within : a.number < min a.count 64 = omega (arith, c.least.ensures, c.«if-number-least».true) in
+    let within : a.number < min a.count 64 = omega (arith, c.least.ensures, c.if-number-least.true) in
     rw (
       point_there (used a.stops.now a.count) (used-there a.stops.now a.count within),
       used-at a.stops.now a.count within,

@@ -1,6 +1,6 @@
 -- `program_text` meets its contract: a refusal's text, or the sheet's.
 use Prim.Native.Nat.{ℕ}
-use mathlib.Core.Path.{sym, ap, ◌∙◌}
+use mathlib.Core.Path.{◌≡◌, sym, ap, ◌∙◌}
 use native.Mathlib.Omega.{arith}
 use lib.ListN.{length, length-replicate}
 use Rattle.rules.specs.Count.{padded}
@@ -41,12 +41,14 @@ returns-then-answer-ne0-clause-bytes c =
 pub returns-clause-text : goal.returns-clause-text
 returns-clause-text c =
     let told = number_told _ _ c.study-answer.ensures.answer in
-    let sheet = sheet_printed c.args.input.now (omega arith) _ (omega (arith, length-replicate {A = ℕ} 2390 0)) told c.if-answer-ne0.false in
-    printed _ 2390 sheet.0 (sym told ∙ c.if-answer-ne0.false) c.study-answer.ensures.text ∙ ap (padded 2390) sheet.1
+    let accepted : c.study-answer.result.number ≡ 0 = omega arith in
+    let sheet = sheet_printed c.args.input.now (omega arith) _ (omega (arith, length-replicate {A = ℕ} 2390 0)) told accepted in
+    printed _ 2390 sheet.0 (sym told ∙ accepted) c.study-answer.ensures.text ∙ ap (padded 2390) sheet.1
 
 pub returns-clause-bytes : goal.returns-clause-bytes
 returns-clause-bytes c =
     let told = number_told _ _ c.study-answer.ensures.answer in
-    let sheet = sheet_printed c.args.input.now (omega arith) _ (omega (arith, length-replicate {A = ℕ} 2390 0)) told c.if-answer-ne0.false in
-    let bytes = counted _ 2390 sheet.0 (sym told ∙ c.if-answer-ne0.false) c.study-answer.ensures.answer in
+    let accepted : c.study-answer.result.number ≡ 0 = omega arith in
+    let sheet = sheet_printed c.args.input.now (omega arith) _ (omega (arith, length-replicate {A = ℕ} 2390 0)) told accepted in
+    let bytes = counted _ 2390 sheet.0 (sym told ∙ accepted) c.study-answer.ensures.answer in
     (bytes ∙ ap length sheet.1, omega (arith, bytes, sheet.0))

@@ -16,4 +16,4 @@ returns-then-number-ne0 c = by_line _ c.requires.0 c.trains_kept-kept.ensures (n
 
 pub returns : goal.returns
 returns c = by_trains _ c.requires.0 c.trains_kept-kept.ensures (not-false _ c.if-not-kept.false) (line_here _ c.requires.1 c.line_refusal-number.ensures)
-    (omega (arith, c.if-number-ne0.false)) c.first_of_trains.ensures
+    (omega arith) c.first_of_trains.ensures

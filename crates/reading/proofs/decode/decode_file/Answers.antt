@@ -19,5 +19,5 @@ returns c = let three = c.word_at-balises.ensures.0 in
     (array_read f c.words_at.ensures at.limit_points one) (array_read f c.words_at-2.ensures at.limits one)
     (array_read f c.words_at-3.ensures at.block_starts two) (array_read f c.words_at-4.ensures at.block_ends two)
     (array_read f c.words_at-5.ensures at.balise_points three) (array_read f c.words_at-6.ensures at.balise_metres three) in
-    let «After_size» = c.size-4.ensures.0 ∙ c.word_at-5.ensures.0 ∙ ap (word f) at.train_count in
-    rw (line, «After_size», at.trains)
+    let trains = c.size-4.ensures.0 ∙ c.word_at-5.ensures.0 ∙ ap (word f) at.train_count in
+    rw (line, trains, at.trains)

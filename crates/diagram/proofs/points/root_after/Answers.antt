@@ -1,4 +1,0 @@
-use Rattle.diagram.proofs.points.root_after.Goals as goal
-
-pub returns : goal.returns
-returns c = c.root_from.ensures
