@@ -2,7 +2,7 @@
 #![tactic(auto)]
 
 ghost use Rattle.std.specs.Prelude.{◌≡◌};
-ghost use Rattle.refusals.specs.Number.{number, kept_or};
+ghost use Rattle.refusals.specs.Number.{number, refused_by, kept_or};
 
 // In the order of their numbers.
 #[derive(Clone, Copy, Debug, PartialEq, Eq)]
@@ -63,5 +63,15 @@ impl Refusal {
         ensures { result ≡ kept_or self kept }
     {
         if kept { Ok(()) } else { Err(self) }
+    }
+}
+
+// The number of refusal, or 0 where a call is accepted.
+pub fn number_of(answer: Result<(), Refusal>) -> u64
+    ensures { result ≡ refused_by answer }
+{
+    match answer {
+        Ok(()) => 0,
+        Err(refusal) => refusal.number(),
     }
 }
