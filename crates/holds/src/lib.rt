@@ -1,4 +1,4 @@
-// The hold record of a train: what the hold call gives, and what is added to a sheet.
+// What crosses between the calls as it lies in memory: the hold record of a train, which the hold call gives and which is added to a sheet, and the sheet.
 #![tactic(auto)]
 
 #[repr(C)]
@@ -17,4 +17,14 @@ impl HoldRecord {
         begins: [0; 32],
         ends: [0; 32],
     };
+}
+
+// For each block its free time, and the beginning of the first train's hold.
+#[repr(C)]
+#[derive(Clone, Copy)]
+pub struct Sheet {
+    pub blocks: u64,
+    pub trains: u64,
+    pub free: [u64; 32],
+    pub first: [u64; 32],
 }
