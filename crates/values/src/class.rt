@@ -1,41 +1,44 @@
 // The class of a train, and the practice braking rate that it has by a fixed table.
 ghost use Rattle.std.specs.Prelude.{◌≡◌};
 ghost use Rattle.rules.specs.Line.{practice_rate};
+ghost use Rattle.values.specs.Class.{number_of, Decodes};
 
-// A train's class, by the file's number.
-#[derive(Clone, Copy)]
-pub struct TrainClass(pub u16);
+// A train's class, in the order of the file's numbers.
+#[derive(Clone, Copy, Debug, PartialEq, Eq)]
+pub enum TrainClass {
+    Intercity,
+    Stopping,
+    Goods,
+}
 
-// In cm/s², by class.
-const PRACTICE_RATES: [u16; 3] = [50, 60, 31];
+// A number that is no class.
+#[derive(Clone, Copy, Debug, PartialEq, Eq)]
+pub struct UnknownClass(pub u16);
 
-impl TrainClass {
-    pub const INTERCITY: TrainClass = TrainClass(0);
+impl TryFrom<u16> for TrainClass {
+    type Error = UnknownClass;
 
-    pub const STOPPING: TrainClass = TrainClass(1);
+    ghost try_from_gives = { Decodes };
 
-    pub const GOODS: TrainClass = TrainClass(2);
-
-    // Any number of a file is taken; rule 3 refuses those that are no class.
-    pub fn from_number(number: u16) -> TrainClass
-        ensures { result.0 ≡ number }
-    {
+    fn try_from(number: u16) -> Result<TrainClass, UnknownClass> {
         match number {
-            0 => TrainClass::INTERCITY,
-            1 => TrainClass::STOPPING,
-            2 => TrainClass::GOODS,
-            _ => TrainClass(number),
+            0 => Ok(TrainClass::Intercity),
+            1 => Ok(TrainClass::Stopping),
+            2 => Ok(TrainClass::Goods),
+            _ => Err(UnknownClass(number)),
         }
     }
+}
 
-    // 0 where the number is no class.
+impl TrainClass {
+    // In cm/s².
     pub fn practice_rate(self) -> u16
-        ensures { result ≡ practice_rate self.0 }
+        ensures { result ≡ practice_rate (number_of self) }
     {
-        let number = self.0 as usize;
-        if number < 3 {
-            return PRACTICE_RATES[number];
+        match self {
+            TrainClass::Intercity => 50,
+            TrainClass::Stopping => 60,
+            TrainClass::Goods => 31,
         }
-        0
     }
 }

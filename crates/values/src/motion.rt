@@ -3,37 +3,40 @@ ghost use Rattle.std.specs.Prelude.{◌≡◌, ◌+◌, ◌*◌, ◌<◌};
 ghost use Rattle.rules.specs.Run.{change, braking_loss, train_cells};
 ghost use Rattle.values.specs.Values.{as_line, as_train};
 
+use crate::class::TrainClass;
 use crate::decoded::{Line, Train};
-use widths::{size, wide, wide64};
 
 // The place, in m from point 0, of what lies so many metres past a point.
 pub fn place_of(point: u16, metres: u16, step: u16) -> u32
     ensures { (result ≡ point * step + metres) × (result < 4294967295) }
 {
-    wide(point) * wide(step) + wide(metres)
+    u32::from(point) * u32::from(step) + u32::from(metres)
 }
 
 // The squared speed gained or lost over a step in m at a rate in cm/s².
 pub fn change_over(rate: u16, step: u16) -> u64
     ensures { result ≡ change rate step }
 {
-    wide64(rate) * 2592 * wide64(step)
+    u64::from(rate) * 2592 * u64::from(step)
 }
 
-// G, the squared speed lost over one step at the practice braking rate.
+// G, the squared speed lost over one step at the practice braking rate; 0 where the train's number is no class.
 pub fn braking_loss(line: Line, train: Train) -> u64
     ensures { result ≡ braking_loss (as_line line) (as_train train) }
 {
-    change_over(train.class.practice_rate(), line.step)
+    match TrainClass::try_from(train.class) {
+        Ok(class) => change_over(class.practice_rate(), line.step),
+        Err(_) => 0,
+    }
 }
 
 // The train's length in steps, rounded up; 0 for a step of 0.
 pub fn train_cells(line: Line, train: Train) -> usize
     ensures { result ≡ train_cells (as_line line) (as_train train) }
 {
-    let step = size(line.step);
+    let step = usize::from(line.step);
     if step == 0 {
         return 0;
     }
-    (size(train.length) + (step - 1)) / step
+    (usize::from(train.length) + (step - 1)) / step
 }

@@ -14,6 +14,6 @@ impl SquaredSpeed {
     pub fn at_most(self, most: SquaredSpeed) -> SquaredSpeed
         ensures { result.0 ≡ min self.0 most.0 }
     {
-        if self.0 < most.0 { self } else { most }
+        SquaredSpeed(self.0.min(most.0))
     }
 }

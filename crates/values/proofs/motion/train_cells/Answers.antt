@@ -6,9 +6,8 @@ use Rattle.values.proofs.motion.train_cells.Goals as goal
 
 pub returns-then-step-eq0 : goal.returns-then-step-eq0
 unfolding train_cells ceil_div
-returns-then-step-eq0 c = let z = sym c.size-step.ensures.0 ∙ c.if-step-eq0.true in
-    rw (z, div-zero)
+returns-then-step-eq0 c = rw (sym c.from-step.ensures ∙ c.if-step-eq0.true, div-zero)
 
 pub returns : goal.returns
 unfolding train_cells ceil_div
-returns c = rw (c.size-step.ensures.0, c.size.ensures.0)
+returns c = rw (c.from-step.ensures, c.from.ensures)
