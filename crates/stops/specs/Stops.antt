@@ -1,35 +1,35 @@
 -- The stops of a train under way, gone through once in the order of their points.
-use Rattle.std.specs.Prelude.{ℕ, suc, ◌+◌, ◌*◌, ◌≤◌, ◌<◌, min, cond, List, [], ◌∷◌, ◌≡◌, leb, ltb, eqb, length, drop}
-use Rattle.rules.specs.Count.{entry, row}
+use Rattle.std.specs.Prelude.{ℕ, suc, ◌+◌, ◌*◌, ◌≤◌, ◌<◌, cond, Bool, false, List, [], ◌∷◌, ◌≡◌, leb, ltb, eqb, length, drop, Option, Some, None}
+use Rattle.rules.specs.Count.{entry}
 use Rattle.stops.specs.declared.Stop.{Stop}
-
--- the entries in use
-abbrev pub used : List ℕ → ℕ → List ℕ
-used array count = row (entry array) (min count 64)
 
 -- how many stops in front lie before point i
 unfoldable pub passed_by : List ℕ → ℕ → ℕ
 passed_by [] i = 0
 passed_by (s ∷ ss) i = cond (ltb s i) (suc (passed_by ss i)) 0
 
+-- stop s, where there is one
+abbrev pub stop_number : List ℕ → ℕ → Option Stop
+stop_number stops s = cond (ltb s (length stops)) (Some (record { number = s; point = entry stops s })) None
+
 -- the first stop from stop s on that is at point i or later
-unfoldable pub stop_from : List ℕ → ℕ → ℕ → ℕ
-stop_from stops s i = s + passed_by (drop s stops) i
-
--- the point of stop s, beyond every point of a line where there is no such stop
-unfoldable pub stop_point : List ℕ → ℕ → ℕ
-stop_point stops s = cond (ltb s (length stops)) (entry stops s) 65536
-
-abbrev pub stop_number : List ℕ → ℕ → Stop
-stop_number stops s = record { number = s; point = stop_point stops s }
+unfoldable pub stop_from : List ℕ → ℕ → ℕ → Option Stop
+stop_from stops s i = stop_number stops (s + passed_by (drop s stops) i)
 
 -- the first stop at point i or later, by the one before
-unfoldable pub stop_ahead : List ℕ → Stop → ℕ → Stop
-stop_ahead stops before i = cond (leb i before.point) before (stop_number stops (stop_from stops before.number i))
+unfoldable pub stop_ahead : List ℕ → Option Stop → ℕ → Option Stop
+stop_ahead stops None i = None
+stop_ahead stops (Some before) i = cond (leb i before.point) (Some before) (stop_from stops before.number i)
+
+-- the stop is at point i
+abbrev pub is_at : Option Stop → ℕ → Bool
+is_at None i = false
+is_at (Some stop) i = eqb stop.point i
 
 -- the dwell in microseconds beside the stop, where that is at point i and i is not 0
-unfoldable pub dwell_here : List ℕ → Stop → ℕ → ℕ
-dwell_here dwells stop i = cond (eqb stop.point i) (cond (eqb i 0) 0 (1000000 * entry dwells stop.number)) 0
+unfoldable pub dwell_here : List ℕ → Option Stop → ℕ → ℕ
+dwell_here dwells None i = 0
+dwell_here dwells (Some stop) i = cond (eqb stop.point i) (cond (eqb i 0) 0 (1000000 * entry dwells stop.number)) 0
 
 -- ---- what is known on the way
 
@@ -37,13 +37,18 @@ dwell_here dwells stop i = cond (eqb stop.point i) (cond (eqb i 0) 0 (1000000 * 
 abbrev pub Apart : List ℕ → Type 0
 Apart stops = (k : ℕ) → suc k < length stops → entry stops k + 2 ≤ entry stops (suc k)
 
+-- the number of a stop, and the count of stops where there is none
+abbrev pub number_of : List ℕ → Option Stop → ℕ
+number_of stops None = length stops
+number_of stops (Some stop) = stop.number
+
 -- every stop before this one lies before point i
-pub record Behind (stops : List ℕ) (stop : Stop) (i : ℕ) : Type 0 where
-  pub at : stop.point ≡ stop_point stops stop.number
-  pub there : stop.number ≤ length stops
-  pub passed : (k : ℕ) → k < stop.number → entry stops k < i
+pub record Behind (stops : List ℕ) (stop : Option Stop) (i : ℕ) : Type 0 where
+  pub at : stop ≡ stop_number stops (number_of stops stop)
+  pub there : number_of stops stop ≤ length stops
+  pub passed : (k : ℕ) → k < number_of stops stop → entry stops k < i
 
 -- the stop is the first at point i or later; there is none where its number is the count of stops
-pub record NextStop (stops : List ℕ) (stop : Stop) (i : ℕ) : Type 0 where
+pub record NextStop (stops : List ℕ) (stop : Option Stop) (i : ℕ) : Type 0 where
   pub behind : Behind stops stop i
-  pub ahead : (k : ℕ) → stop.number ≤ k → k < length stops → i ≤ entry stops k
+  pub ahead : (k : ℕ) → number_of stops stop ≤ k → k < length stops → i ≤ entry stops k

@@ -1,78 +1,66 @@
-// The stops of a train under way, gone through once in the order of their points. Of the arrays the first `count` entries are in use, but
-// no more than 64.
+// The stops of a train under way, gone through once in the order of their points.
 #![tactic(auto)]
 
 ghost use Rattle.std.specs.Prelude.{◌≡◌};
-ghost use Rattle.stops.specs.Stops.{used, stop_from, stop_number, stop_ahead, dwell_here};
+ghost use Rattle.stops.specs.Stops.{stop_number, stop_from, stop_ahead, is_at, dwell_here};
 
-use widths::{least, size, wide64};
-
-// The number of a stop and its point. Where there is no such stop, the point is beyond every point of a line.
+// The number of a stop and its point.
 #[derive(Clone, Copy)]
 pub struct Stop {
     pub number: usize,
     pub point: usize,
 }
 
-// The number of the first stop from `next` on that is at point i or later, or the count of stops where there is none.
-fn stop_from(stops: &[u16; 64], count: usize, next: usize, i: usize) -> usize
-    ensures { result ≡ stop_from (used stops.now count) next i }
+// The first stop from number `next` on that is at point i or later.
+fn stop_from(stops: &[u16], next: usize, i: usize) -> Option<Stop>
+    ensures { result ≡ stop_from stops.now next i }
 {
-    let end = least(count, 64);
-    let mut s = next;
-    while s < end {
-        if i <= size(stops[s]) {
-            return s;
-        }
-        s += 1;
-    }
-    s
-}
-
-fn stop_number(stops: &[u16; 64], count: usize, number: usize) -> Stop
-    ensures { result ≡ stop_number (used stops.now count) number }
-{
-    if number < least(count, 64) {
-        return Stop {
+    stops
+        .iter()
+        .enumerate()
+        .skip(next)
+        .map(|(number, point)| Stop {
             number,
-            point: size(stops[number]),
-        };
-    }
-    Stop {
-        number,
-        point: 65536,
-    }
+            point: usize::from(*point),
+        })
+        .find(|stop| i <= stop.point)
 }
 
-pub fn first_stop(stops: &[u16; 64], count: usize) -> Stop
-    ensures { result ≡ stop_number (used stops.now count) 0 }
+pub fn first_stop(stops: &[u16]) -> Option<Stop>
+    ensures { result ≡ stop_number stops.now 0 }
 {
-    stop_number(stops, count, 0)
+    stop_from(stops, 0, 0)
 }
 
 // The first stop at point i or later, where `before` is the first at an earlier point or later.
-pub fn stop_ahead(stops: &[u16; 64], count: usize, before: Stop, i: usize) -> Stop
-    ensures { result ≡ stop_ahead (used stops.now count) before i }
+#[tactic(auto, unfolding(crate::specs::Stops::stop_ahead))]
+pub fn stop_ahead(stops: &[u16], before: Option<Stop>, i: usize) -> Option<Stop>
+    ensures { result ≡ stop_ahead stops.now before i }
 {
-    if i <= before.point {
-        return before;
+    let stop = before?;
+    if i <= stop.point {
+        before
+    } else {
+        stop_from(stops, stop.number, i)
     }
-    stop_number(stops, count, stop_from(stops, count, before.number, i))
+}
+
+// Whether the stop is at point i.
+pub fn is_at(stop: Option<Stop>, i: usize) -> bool
+    ensures { result ≡ is_at stop i }
+{
+    stop.is_some_and(|stop| stop.point == i)
 }
 
 // The dwell in microseconds where the stop is at point i, else 0. The dwell at point 0 does not count.
-pub fn dwell_at(dwells: &[u16; 64], stop: Stop, i: usize) -> u64
-    ensures { result ≡ dwell_here (used dwells.now 64) stop i }
+#[tactic(auto, unfolding(crate::specs::Stops::dwell_here))]
+pub fn dwell_at(dwells: &[u16], stop: Option<Stop>, i: usize) -> u64
+    ensures { result ≡ dwell_here dwells.now stop i }
 {
-    let number = stop.number;
-    if stop.point != i {
-        return 0;
+    match stop {
+        Some(stop) if stop.point == i && i != 0 => {
+            1000000 * dwells.get(stop.number).map_or(0, |dwell| u64::from(*dwell))
+        }
+        _ => 0,
     }
-    if i == 0 {
-        return 0;
-    }
-    if number < 64 {
-        return 1000000 * wide64(dwells[number]);
-    }
-    0
 }
