@@ -1,10 +1,14 @@
-// Rules 12 to 14, of a sheet and a hold record with any contents: tests that pass where a rule is kept, and the number of refusal.
+// Rules 12 to 14, of a sheet and a hold record with any contents: tests that pass where a rule is kept, and the first refusal.
 #![tactic(auto)]
 
-ghost use Rattle.std.specs.Prelude.{◌≡◌, ◌≤◌, leb, ltb};
+ghost use Rattle.std.specs.Prelude.{◌≡◌, ◌≤◌, min, leb, ltb, length};
 ghost use Rattle.rules.specs.Count.{entry, every};
 ghost use Rattle.rules.specs.Refusal.{refusal, count_rule, sheet_rule, hold_rule, adding_rules};
-ghost use Rattle.sheet_judging.specs.Fields.{sheet_from, hold_from};
+ghost use Rattle.holds.specs.Values.{as_sheet, as_hold};
+ghost use Rattle.refusals.specs.Number.{refused_by};
+
+use holds::{HoldRecord, Sheet};
+use refusals::Refusal;
 
 const MOST_BLOCKS: u64 = 32;
 
@@ -13,104 +17,55 @@ const MOST_TRAINS: u64 = 64;
 // 2^44 microseconds.
 pub const LATEST_END: u64 = 17592186044416;
 
-// The first n times are at most the bound.
-fn all_at_most(n: usize, times: &[u64; 32], bound: u64) -> bool
-    requires { n ≤ 32 }
-    ensures { result ≡ every n (λ b. leb (entry times.now b) bound) }
+fn all_at_most(times: &[u64], bound: u64) -> bool
+    ensures { result ≡ every (length times.now) (λ b. leb (entry times.now b) bound) }
 {
-    let mut b = 0;
-    while b < n {
-        if bound < times[b] {
-            return false;
-        }
-        b += 1;
-    }
-    true
+    times.iter().all(|time| *time <= bound)
 }
 
-// The first n beginnings are below their ends.
-fn all_ordered<'a>(n: usize, begins: &'a [u64; 32], ends: &'a [u64; 32]) -> bool
-    requires { n ≤ 32 }
-    ensures { result ≡ every n (λ b. ltb (entry begins.now b) (entry ends.now b)) }
+// Each beginning is below the end beside it.
+fn all_ordered(begins: &[u64], ends: &[u64]) -> bool
+    ensures { result
+        ≡ every (min (length begins.now) (length ends.now)) (λ b. ltb (entry begins.now b) (entry ends.now b)) }
 {
-    let mut b = 0;
-    while b < n {
-        if ends[b] <= begins[b] {
-            return false;
-        }
-        b += 1;
-    }
-    true
+    begins.iter().zip(ends).all(|(begin, end)| begin < end)
 }
 
 // Rule 12 of a block count.
 pub fn count_kept(blocks: u64) -> bool
     ensures { result ≡ count_rule blocks }
 {
-    if blocks < 1 {
-        return false;
-    }
-    if MOST_BLOCKS < blocks {
-        return false;
-    }
-    true
+    1 <= blocks && blocks <= MOST_BLOCKS
 }
 
 // Rule 12 of a sheet. The first train's beginnings are judged on a sheet with trains alone.
-pub fn sheet_kept<'a>(blocks: u64, trains: u64, free: &'a [u64; 32], first: &'a [u64; 32]) -> bool
-    ensures { result ≡ sheet_rule (sheet_from blocks trains free.now first.now) }
+pub fn sheet_kept(sheet: &Sheet) -> bool
+    ensures { result ≡ sheet_rule (as_sheet sheet.now) }
 {
-    if !count_kept(blocks) {
+    if !count_kept(sheet.blocks) || sheet.trains > MOST_TRAINS {
         return false;
     }
-    if MOST_TRAINS < trains {
-        return false;
-    }
-    if !all_at_most(blocks as usize, free, trains * LATEST_END) {
-        return false;
-    }
-    if trains == 0 {
-        return true;
-    }
-    all_ordered(blocks as usize, first, free)
+    let n = sheet.blocks as usize;
+    all_at_most(&sheet.free[..n], sheet.trains * LATEST_END)
+        && (sheet.trains == 0 || all_ordered(&sheet.first[..n], &sheet.free[..n]))
 }
 
-// Rule 14 of a hold record of `count` blocks, by the sheet's block count.
-fn hold_kept<'a>(blocks: u64, count: u64, begins: &'a [u64; 32], ends: &'a [u64; 32]) -> bool
+// Rule 14 of a hold record, by the sheet's block count.
+fn hold_kept(blocks: u64, hold: &HoldRecord) -> bool
     requires { blocks ≤ 32 }
-    ensures { result ≡ hold_rule blocks (hold_from count begins.now ends.now) }
+    ensures { result ≡ hold_rule blocks (as_hold hold.now) }
 {
-    if count != blocks {
-        return false;
-    }
-    if !all_ordered(blocks as usize, begins, ends) {
-        return false;
-    }
-    all_at_most(blocks as usize, ends, LATEST_END)
+    let n = blocks as usize;
+    hold.blocks == blocks
+        && all_ordered(&hold.begins[..n], &hold.ends[..n])
+        && all_at_most(&hold.ends[..n], LATEST_END)
 }
 
-// The first broken rule of 12 to 14, or 0, for a sheet and a hold record of `count` blocks.
-pub fn adding_refusal<'a>(
-    blocks: u64,
-    trains: u64,
-    free: &'a [u64; 32],
-    first: &'a [u64; 32],
-    count: u64,
-    begins: &'a [u64; 32],
-    ends: &'a [u64; 32],
-) -> u64
-    ensures { result
-        ≡ refusal
-        (adding_rules (sheet_from blocks trains free.now first.now) (hold_from count begins.now ends.now)) }
+// The first broken rule of 12 to 14, for a sheet and a hold record.
+pub fn check_adding(sheet: &Sheet, hold: &HoldRecord) -> Result<(), Refusal>
+    ensures { refused_by result ≡ refusal (adding_rules (as_sheet sheet.now) (as_hold hold.now)) }
 {
-    if !sheet_kept(blocks, trains, free, first) {
-        return 12;
-    }
-    if trains == MOST_TRAINS {
-        return 13;
-    }
-    if !hold_kept(blocks, count, begins, ends) {
-        return 14;
-    }
-    0
+    Refusal::Sheet.unless(sheet_kept(sheet))?;
+    Refusal::SheetFull.unless(sheet.trains != MOST_TRAINS)?;
+    Refusal::Hold.unless(hold_kept(sheet.blocks, hold))
 }

@@ -1,18 +1,14 @@
 -- `sheet_kept`: the four parts of rule 12 in turn.
-use Prim.Native.Nat.{◌*◌, ◌^◌, ◌≤◌, ◌<◌}
-use mathlib.Core.Bool.{Bool, true, false}
-use mathlib.Core.Path.{◌≡◌}
-use native.Mathlib.Omega.{arith}
-use lib.Dec.{leb, ltb}
-use borrow.Author.Tests.{le-leb, lt-leb, eq-eqb, ne_eqb}
-use Rattle.rules.specs.Count.{◌and◌, every}
+use Rattle.std.proofs.Common.{◌≡◌, ◌≤◌, ◌<◌, ◌*◌, ◌^◌, min, length, take, Bool, true, false, leb, ltb, arith, sym, ◌∙◌}
+use Rattle.std.proofs.lemmas.Bool.{le-leb, lt-leb, eq-eqb, ne_eqb}
+use Rattle.rules.specs.Count.{◌and◌, entry, every}
 use Rattle.rules.specs.Refusal.{count_rule, sheet_rule}
-use Rattle.rules.specs.Sheet.{Sheet, free_time, first_begin}
+use Rattle.rules.specs.Sheet.{Sheet}
 use Rattle.rules.proofs.Count.{within_means}
-use Rattle.rules.proofs.Loops.{passed, failed}
-use mathlib.Core.Path.{ap}
-use mathlib.Core.Bool.{not}
+use Rattle.sheet_judging.proofs.Parts.{most_in_part, ordered_in_part}
+use Rattle.holds.specs.Values.{as_sheet}
 use Rattle.sheet_judging.proofs.sheet_kept.Goals as goal
+use Rattle.sheet_judging.proofs.sheet_kept.Goals.{then-not-count_kept-via-then-not-count_kept, then-not-count_kept-via-else-not-count_kept+then-sheet-gt-MOST_TRAINS}
 
 module _ (s : Sheet) where
   wrong_count : count_rule s.blocks ≡ false → false ≡ sheet_rule s
@@ -24,47 +20,54 @@ module _ (s : Sheet) where
     unfolding sheet_rule ◌and◌
     too_many l = rw (e, lt-leb s.trains 64 l)
 
-    module _ (l : s.trains ≤ 64) where
-      too_late : every s.blocks (λ b. leb (free_time s b) (s.trains * 2 ^ 44)) ≡ false → false ≡ sheet_rule s
-      unfolding sheet_rule ◌and◌
-      too_late f = rw (e, le-leb s.trains 64 l, f)
+    module _ (l : s.trains ≤ 64) (places : 32 ≤ length s.free) {early : Bool}
+        (f : early ≡ every (length (take s.blocks s.free)) (λ b. leb (entry (take s.blocks s.free) b) (s.trains * 2 ^ 44))) where
+      few : s.blocks ≤ length s.free
+      few = omega (arith, within_means 1 32 s.blocks e)
 
-      module _ (f : every s.blocks (λ b. leb (free_time s b) (s.trains * 2 ^ 44)) ≡ true) where
+      too_late : early ≡ false → early ≡ sheet_rule s
+      unfolding sheet_rule ◌and◌
+      too_late g = rw (e, le-leb s.trains 64 l, sym (most_in_part s.blocks s.free few (s.trains * 2 ^ 44)) ∙ sym f ∙ g) g
+
+      module _ (g : early ≡ true) where
         no_train_lem : s.trains ≡ 0 → true ≡ sheet_rule s
         unfolding sheet_rule ◌and◌
-        no_train_lem z = rw (e, le-leb s.trains 64 l, f, eq-eqb s.trains 0 z)
+        no_train_lem z =
+            rw (e, le-leb s.trains 64 l, sym (most_in_part s.blocks s.free few (s.trains * 2 ^ 44)) ∙ sym f ∙ g, eq-eqb s.trains 0 z)
 
-        by_first : (s.trains ≡ 0 → ⊥) → {r : Bool} → r ≡ every s.blocks (λ b. ltb (first_begin s b) (free_time s b)) → r ≡ sheet_rule s
+        by_first :
+            (s.trains ≡ 0 → ⊥) → 32 ≤ length s.first → {r : Bool} →
+            r ≡ every (min (length (take s.blocks s.first)) (length (take s.blocks s.free))) (λ b.
+            ltb (entry (take s.blocks s.first) b) (entry (take s.blocks s.free) b)) →
+            r ≡ sheet_rule s
         unfolding sheet_rule ◌and◌
-        by_first h g = rw (e, le-leb s.trains 64 l, f, ne_eqb s.trains 0 h) g
+        by_first h more k =
+            rw (e, le-leb s.trains 64 l, sym (most_in_part s.blocks s.free few (s.trains * 2 ^ 44)) ∙ sym f ∙ g, ne_eqb s.trains 0 h)
+            (k ∙ ordered_in_part s.blocks s.first (omega (arith, within_means 1 32 s.blocks e)) s.free few)
 
 pub returns-then-not-count_kept : goal.returns-then-not-count_kept
-returns-then-not-count_kept c = wrong_count _ (failed c.count_kept.ensures (ap not c.if-not-count_kept.true))
+returns-then-not-count_kept c =
+    elim c.then-not-count_kept.branch [
+      | then-not-count_kept-via-then-not-count_kept w ↦ wrong_count _ (sym c.count_kept.ensures ∙ w.if-not-count_kept.true)
+      | then-not-count_kept-via-else-not-count_kept+then-sheet-gt-MOST_TRAINS w ↦
+          too_many _ (sym c.count_kept.ensures ∙ w.if-not-count_kept.false) w.if-sheet-gt-MOST_TRAINS.true
+    ]
 
-pub returns-then-trains-gt-MOST_TRAINS : goal.returns-then-trains-gt-MOST_TRAINS
-returns-then-trains-gt-MOST_TRAINS c = too_many _ (passed c.count_kept.ensures (ap not c.if-not-count_kept.false)) c.if-trains-gt-MOST_TRAINS.true
+pub shared_ref_as_front-all_at_most : goal.shared_ref_as_front-all_at_most
+shared_ref_as_front-all_at_most c = (within_means 1 32 _ (sym c.count_kept.ensures ∙ c.if-not-count_kept.false)).1
 
-pub all_at_most-requires : goal.all_at_most-requires
-all_at_most-requires c =
-    let counted : count_rule c.args.blocks ≡ true = (passed c.count_kept.ensures (ap not c.if-not-count_kept.false)) in
-    (within_means 1 32 _ counted).1
+pub returns-then-sheet-eq0 : goal.returns-then-sheet-eq0
+returns-then-sheet-eq0 c =
+    rw (eq-eqb c.args.sheet.now.trains 0 c.if-sheet-eq0.true)
+    (no_train_lem _ (sym c.count_kept.ensures ∙ c.if-not-count_kept.false) c.if-sheet-gt-MOST_TRAINS.false (omega arith) c.all_at_most.ensures
+    c.if-all_at_most.true c.if-sheet-eq0.true)
 
-pub returns-then-not-all_at_most : goal.returns-then-not-all_at_most
-returns-then-not-all_at_most c =
-    let counted : count_rule c.args.blocks ≡ true = (passed c.count_kept.ensures (ap not c.if-not-count_kept.false)) in
-    too_late _ counted c.if-trains-gt-MOST_TRAINS.false (failed c.all_at_most.ensures (ap not c.if-not-all_at_most.true))
+pub returns-else-sheet-eq0 : goal.returns-else-sheet-eq0
+returns-else-sheet-eq0 c =
+    by_first (as_sheet c.args.sheet.now) (sym c.count_kept.ensures ∙ c.if-not-count_kept.false) c.if-sheet-gt-MOST_TRAINS.false (omega arith) c.all_at_most.ensures
+    c.if-all_at_most.true c.if-sheet-eq0.false (omega arith) c.all_ordered.ensures
 
-pub returns-then-trains-eq0 : goal.returns-then-trains-eq0
-returns-then-trains-eq0 c =
-    let counted : count_rule c.args.blocks ≡ true = (passed c.count_kept.ensures (ap not c.if-not-count_kept.false)) in
-    no_train_lem _ counted c.if-trains-gt-MOST_TRAINS.false (passed c.all_at_most.ensures (ap not c.if-not-all_at_most.false)) c.if-trains-eq0.true
-
-pub all_ordered-requires : goal.all_ordered-requires
-all_ordered-requires c =
-    let counted : count_rule c.args.blocks ≡ true = (passed c.count_kept.ensures (ap not c.if-not-count_kept.false)) in
-    (within_means 1 32 _ counted).1
-
-pub returns : goal.returns
-returns c =
-    let counted : count_rule c.args.blocks ≡ true = (passed c.count_kept.ensures (ap not c.if-not-count_kept.false)) in
-    by_first _ counted c.if-trains-gt-MOST_TRAINS.false (passed c.all_at_most.ensures (ap not c.if-not-all_at_most.false)) (λ z. omega arith) c.all_ordered.ensures
+pub returns-else-all_at_most : goal.returns-else-all_at_most
+returns-else-all_at_most c =
+    too_late _ (sym c.count_kept.ensures ∙ c.if-not-count_kept.false) c.if-sheet-gt-MOST_TRAINS.false (omega arith) c.all_at_most.ensures
+    c.if-all_at_most.false

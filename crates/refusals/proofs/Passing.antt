@@ -1,0 +1,28 @@
+-- What a `?` passes on, and what a rule that is tested by it says. Assumes nothing.
+use Rattle.std.specs.Prelude.{◌≡◌, Bool, true, false, Result, Ok, Err}
+use Rattle.std.proofs.Common.{refl}
+use Rattle.std.specs.Result.{IsErrAnd}
+use Rattle.refusals.specs.declared.Refusal.{Refusal}
+use Rattle.refusals.specs.Number.{number, refused_by, kept_or}
+
+-- a refusal that leaves by `?` keeps its number
+pub passed_on : {A : Type 0} (r : Result A Refusal) (e : Refusal) → IsErrAnd r (λ x. x ≡ e) → refused_by r ≡ number e
+passed_on (Ok x) e h = absurd h
+passed_on (Err x) e h = rw h
+
+-- where a rule refuses, it is broken, and the refusal is its own
+pub refuses : (x r : Refusal) (kept : Bool) → Err r ≡ kept_or x kept → (kept ≡ false) × (number r ≡ number x)
+refuses x r true e = cc
+refuses x r false e = (refl, cc)
+
+-- where it lets pass, it is kept
+pub passes : (x : Refusal) (kept : Bool) → Ok tt ≡ kept_or x kept → kept ≡ true
+passes x true e = refl
+passes x false e = cc
+
+-- a rule that is tested last gives the answer
+pub last_kept : {r : Result Unit Refusal} (x : Refusal) {kept : Bool} → r ≡ kept_or x kept → kept ≡ true → refused_by r ≡ 0
+last_kept x e h = rw (e, h)
+
+pub last_broken : {r : Result Unit Refusal} (x : Refusal) {kept : Bool} → r ≡ kept_or x kept → kept ≡ false → refused_by r ≡ number x
+last_broken x e h = rw (e, h)
