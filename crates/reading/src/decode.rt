@@ -9,7 +9,6 @@ use crate::places::{
 };
 use crate::words::{word_at, words_at};
 use values::{Line, Train};
-use widths::size;
 
 // A file's line, T, and the place of its first train record.
 #[derive(Clone, Copy)]
@@ -32,19 +31,19 @@ pub fn decode_file(file: &[u8]) -> DecodedFile
         step: word_at(file, STEP_LENGTH),
         set_up: word_at(file, SET_UP_TIME),
         release: word_at(file, RELEASE_TIME),
-        limit_count: size(limits),
+        limit_count: usize::from(limits),
         limit_points: words_at(file, places.limit_points, limits),
         limits: words_at(file, places.limits, limits),
-        block_count: size(blocks),
+        block_count: usize::from(blocks),
         block_starts: words_at(file, places.block_starts, blocks),
         block_ends: words_at(file, places.block_ends, blocks),
-        balise_count: size(balises),
+        balise_count: usize::from(balises),
         balise_points: words_at(file, places.balise_points, balises),
         balise_metres: words_at(file, places.balise_metres, balises),
     };
     DecodedFile {
         line,
-        trains: size(word_at(file, places.train_count)),
+        trains: usize::from(word_at(file, places.train_count)),
         at: places.trains,
     }
 }
@@ -66,10 +65,10 @@ pub fn decode_train(bytes: &[u8]) -> Train
     Train {
         class: word_at(bytes, CLASS_NUMBER),
         length: word_at(bytes, LENGTH_NUMBER),
-        band_count: size(bands),
+        band_count: usize::from(bands),
         tops: words_at(bytes, places.tops, bands),
         rates: words_at(bytes, places.rates, bands),
-        stop_count: size(stops),
+        stop_count: usize::from(stops),
         stops: words_at(bytes, places.stops, stops),
         dwells: words_at(bytes, places.dwells, stops),
     }

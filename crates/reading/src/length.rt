@@ -1,33 +1,24 @@
 // Whether a file has the length that its sizes announce.
 ghost use Rattle.std.specs.Prelude.{◌≡◌};
+ghost use Rattle.refusals.specs.Number.{refused_by};
 ghost use Rattle.rules.specs.Refusal.{refusal, length_rules};
 
 use crate::decode::record_size;
 use crate::places::line_places;
 use crate::words::word_at;
-use widths::size;
+use refusals::Refusal;
 
-// The number of refusal of a file by rules 1 and 2, or 0.
-pub fn length_refusal(file: &[u8]) -> u64
-    ensures { result ≡ refusal (length_rules file.now) }
+// Refuses a file by rules 1 and 2.
+pub fn check_length(file: &[u8]) -> Result<(), Refusal>
+    ensures { refused_by result ≡ refusal (length_rules file.now) }
 {
     let places = line_places(file);
-    if file.len() < places.trains {
-        return 1;
-    }
-    let trains = size(word_at(file, places.train_count));
+    Refusal::FileTooShort.unless(places.trains <= file.len())?;
     let mut at = places.trains;
-    let mut k = 0;
-    while k < trains {
+    for _ in 0..word_at(file, places.train_count) {
         let end = record_size(&file[at..]);
-        if file.len() - at < end {
-            return 1;
-        }
+        Refusal::FileTooShort.unless(end <= file.len() - at)?;
         at += end;
-        k += 1;
     }
-    if at < file.len() {
-        return 2;
-    }
-    0
+    Refusal::FileTooLong.unless(at == file.len())
 }

@@ -7,4 +7,4 @@ mod places;
 mod words;
 
 pub use decode::{DecodedFile, decode_file, decode_train, record_size};
-pub use length::length_refusal;
+pub use length::check_length;

@@ -2,7 +2,6 @@
 ghost use Rattle.reading.specs.Places.{IsLinePlaces, IsRecordPlaces};
 
 use crate::words::word_at;
-use widths::size;
 
 // The sizes of the line.
 pub(crate) const POINT_COUNT: usize = 0;
@@ -58,9 +57,9 @@ pub(crate) struct RecordPlaces {
 pub(crate) fn line_places(file: &[u8]) -> LinePlaces
     ensures { IsLinePlaces file.now result }
 {
-    let limits = 2 * size(word_at(file, LIMIT_COUNT));
-    let blocks = 2 * size(word_at(file, BLOCK_COUNT));
-    let balises = 2 * size(word_at(file, BALISE_COUNT));
+    let limits = 2 * usize::from(word_at(file, LIMIT_COUNT));
+    let blocks = 2 * usize::from(word_at(file, BLOCK_COUNT));
+    let balises = 2 * usize::from(word_at(file, BALISE_COUNT));
     let block_starts = SIZES_END + limits + limits;
     let balise_points = block_starts + blocks + blocks;
     let train_count = balise_points + balises + balises;
@@ -79,8 +78,8 @@ pub(crate) fn line_places(file: &[u8]) -> LinePlaces
 pub(crate) fn record_places(bytes: &[u8]) -> RecordPlaces
     ensures { IsRecordPlaces bytes.now result }
 {
-    let bands = 2 * size(word_at(bytes, BAND_COUNT));
-    let stops = 2 * size(word_at(bytes, STOP_COUNT));
+    let bands = 2 * usize::from(word_at(bytes, BAND_COUNT));
+    let stops = 2 * usize::from(word_at(bytes, STOP_COUNT));
     let stops_at = TOPS + bands + bands;
     RecordPlaces {
         tops: TOPS,

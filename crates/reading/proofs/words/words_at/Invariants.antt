@@ -1,10 +1,7 @@
-use Prim.Native.Nat.{◌≤◌, ◌-◌, ◌+◌, ◌*◌}
+use Prim.Native.Nat.{◌+◌, ◌*◌}
 use Rattle.rules.specs.File.{word}
 use Rattle.rules.proofs.Fill.{Filled}
 use Rattle.reading.proofs.words.words_at.Given as goal
 
 abbrev pub invariant-loop-i : goal.invariant-loop-i
-invariant-loop-i l = (l.i ≤ l.count) × Filled (λ k. word l.bytes (l.at + 2 * k)) 0 l.i l.initial.numbers l.numbers
-
-abbrev pub decreases-loop-i : goal.decreases-loop-i
-decreases-loop-i l = l.count - l.i
+invariant-loop-i l = Filled (λ k. word l.bytes (l.at + 2 * k)) 0 l.i l.initial.numbers l.numbers
