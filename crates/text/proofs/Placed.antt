@@ -3,10 +3,8 @@ use Prim.Native.Nat.{ℕ, ◌+◌, ◌/◌, ◌%◌, ◌≤◌, ◌<◌}
 use mathlib.Core.List.{List, [], ◌∷◌, ◌++◌, append_assoc}
 use mathlib.Core.Path.{◌≡◌, refl, sym}
 use native.Mathlib.Nat.{add-zero}
-use native.Mathlib.Numerals.{add-one}
 use native.Mathlib.Omega.{arith}
-use lib.ListN.{length, get_or, take, set, length-append, length-set}
-use lib.Seq.{take-suc, length-take-le}
+use lib.ListN.{length, set, length-append, length-set}
 use Rattle.rules.specs.Text.{digit, decimal, field, train_line, joined}
 use Rattle.rules.proofs.Decimal.{decimal_one, decimal_step, decimal_some}
 use Rattle.rules.proofs.Written.{written_none, written_one, written_then, joined_next, joined-within}
@@ -49,16 +47,6 @@ module _ {buffer : List ℕ} {at : ℕ} where
       }
 
 module _ {buffer : List ℕ} {at : ℕ} where
-  -- a turn of the loop that copies a text
-  pub copied_next :
-      (text : List ℕ) (i : ℕ) {between : List ℕ} → at + length text ≤ length buffer → i < length text → length between ≡ length buffer →
-      Placed buffer at (take i text) (at + i) between →
-      Placed buffer at (take (i + 1) text) (at + (i + 1)) (set between (at + i) (get_or text i 0))
-  copied_next text i h l e p =
-      let next : at + (i + 1) ≡ at + i + 1 = omega arith in
-      rw (next, add-one i, take-suc text i 0)
-      (placed_then (omega (arith, length-take-le i text (omega arith))) p (placed_one (get_or text i 0) (omega arith)))
-
   -- a turn of the loop that writes piece behind piece
   pub joined-placed :
       (piece : ℕ → List ℕ) (k n : ℕ) {between after : List ℕ} {next past : ℕ} →

@@ -6,34 +6,46 @@ use native.Mathlib.Nat.{zero-add}
 use native.Mathlib.Omega.{arith}
 use lib.Dec.{leb}
 use lib.ListN.{length}
-use borrow.Author.Tests.{leb-true, le-leb, lt-leb, ne_eqb}
+use borrow.Author.Tests.{leb-true, leb-false, le-leb, lt-leb}
+use Rattle.std.proofs.Common.{Ok, Err, false, true, Bool}
+use Rattle.refusals.specs.declared.Refusal.{Refusal}
+use Rattle.refusals.specs.declared.Refusal.TheVariants as refusals
+use Rattle.refusals.specs.Number.{number, kept_or}
 use Rattle.rules.specs.Calls.{lent_after}
 use Rattle.rules.proofs.Calls.{lent_written, lent_kept}
 use Rattle.rules.proofs.Refusal.{refusal-none, head_broken, head_kept, head_accepted}
-use Rattle.text.specs.Text.{write_answer, Placed, room_refusal}
+use Rattle.text.specs.Text.{Placed, room_refusal}
 
 -- ---- a call with this number of refusal
 
-module _ (text : List ℕ) where
-  pub answer-written : write_answer 0 text ≡ record { number = 0; bytes = length text }
-  unfolding write_answer
-  answer-written = refl
+-- 0 is no refusal's number
+pub number_some : (r : Refusal) → number r ≡ 0 → ⊥
+number_some refusals.FileTooShort z = omega arith
+number_some refusals.FileTooLong z = omega arith
+number_some refusals.Sizes z = omega arith
+number_some refusals.LimitPoints z = omega arith
+number_some refusals.Limits z = omega arith
+number_some refusals.Blocks z = omega arith
+number_some refusals.Bands z = omega arith
+number_some refusals.Stops z = omega arith
+number_some refusals.LastBlock z = omega arith
+number_some refusals.NoSuchTrain z = omega arith
+number_some refusals.TooLittleRoom z = omega arith
+number_some refusals.Sheet z = omega arith
+number_some refusals.SheetFull z = omega arith
+number_some refusals.Hold z = omega arith
+number_some refusals.Balises z = omega arith
+number_some refusals.Placing z = omega arith
+number_some refusals.NoPath z = omega arith
 
-  pub answer-refused : {number : ℕ} → (number ≡ 0 → ⊥) → write_answer number text ≡ record { number = number; bytes = 0 }
-  unfolding write_answer
-  answer-refused {number} h = rw (ne_eqb number 0 h)
-
-module _ (text buffer : List ℕ) {number : ℕ} where
-  pub refused_by :
-      {found : ℕ} → found ≡ number → (found ≡ 0 → ⊥) →
-      (record { number = found; bytes = 0 } ≡ write_answer number text) × (buffer ≡ lent_after number text buffer)
-  refused_by e h = rw (sym e) (sym (answer-refused text h), sym (lent_kept text buffer h))
+module _ (text buffer : List ℕ) {told : ℕ} where
+  -- a refusal leaves the buffer
+  pub left : (r : Refusal) → number r ≡ told → buffer ≡ lent_after told text buffer
+  left r e = rw (sym e) (sym (lent_kept text buffer (number_some r)))
 
   pub wrote_all :
-      {past : ℕ} {after : List ℕ} → number ≡ 0 → Placed buffer 0 text past after →
-      (record { number = 0; bytes = past } ≡ write_answer number text) × (after ≡ lent_after number text buffer)
-  wrote_all z p =
-      rw z (rw (p.past_text, zero-add) (sym (answer-written text)), p.bytes ∙ sym (lent_written text buffer))
+      {past : ℕ} {after : List ℕ} → told ≡ 0 → Placed buffer 0 text past after → (past ≡ length text) × (after ≡ lent_after told text buffer)
+  wrote_all z p = rw z (rw (p.past_text, zero-add), p.bytes ∙ sym (lent_written text buffer))
 
 -- ---- the number of a text
 
@@ -49,3 +61,24 @@ module _ (text : List ℕ) (bytes : ℕ) where
   pub room_there : room_refusal text bytes ≡ 0 → length text ≤ bytes
   unfolding room_refusal
   room_there z = leb-true (length text) bytes (head_accepted 11 (leb (length text) bytes) [] (omega arith) z).0
+
+-- ---- a test that a call makes by `unless`
+
+pub unless_broken : (kept : Bool) (r : Refusal) {e : Refusal} → Err e ≡ kept_or r kept → (e ≡ r) × (kept ≡ false)
+unless_broken true r h = absurd (cc)
+unless_broken false r h = (cc, refl)
+
+pub unless_kept : (kept : Bool) (r : Refusal) {u : Unit} → Ok u ≡ kept_or r kept → kept ≡ true
+unless_kept true r h = refl
+unless_kept false r h = absurd (cc)
+
+-- that a text of this length fits
+module _ (text : List ℕ) (bytes : ℕ) {counted : ℕ} (long : counted ≡ length text) where
+  pub unless_short : {e : Refusal} → Err e ≡ kept_or refusals.TooLittleRoom (leb counted bytes) → number e ≡ room_refusal text bytes
+  unless_short h =
+      let broken = unless_broken (leb counted bytes) refusals.TooLittleRoom h in
+      let short : bytes < length text = rw long at (leb-false counted bytes broken.1) in
+      rw broken.0 (room_short text bytes short)
+
+  pub unless_fits : {u : Unit} → Ok u ≡ kept_or refusals.TooLittleRoom (leb counted bytes) → 0 ≡ room_refusal text bytes
+  unless_fits h = room_enough text bytes (rw long at (leb-true counted bytes (unless_kept (leb counted bytes) refusals.TooLittleRoom h)))

@@ -1,21 +1,20 @@
 -- The whole sheet's text, and when it is written. Assumes nothing.
-use Prim.Native.Nat.{ℕ, ◌+◌, ◌≤◌, ◌<◌}
+use Prim.Native.Nat.{ℕ, ◌+◌, ◌<◌}
 use mathlib.Core.Bool.{Bool, true, false}
 use mathlib.Core.List.{List, [], ◌∷◌, ◌++◌}
-use mathlib.Core.Path.{◌≡◌, sym, ◌∙◌}
+use mathlib.Core.Path.{◌≡◌, sym}
 use native.Mathlib.Omega.{arith}
 use lib.Dec.{leb, eqb}
 use lib.ListN.{length, length-append}
 use borrow.Author.Tests.{leb-true, eqb-true, le-leb, eq-eqb}
-use Rattle.rules.specs.Count.{◌and◌, entry}
+use Rattle.rules.specs.Count.{◌and◌}
 use Rattle.rules.specs.Refusal.{Rule, rule}
-use Rattle.rules.specs.Text.{header, train_line, joined}
+use Rattle.rules.specs.Text.{header, joined}
 use Rattle.rules.proofs.Count.{and_left, and_right, and_both}
 use Rattle.rules.proofs.Lengths.{header-length}
-use Rattle.rules.proofs.Refusal.{head_broken, head_kept, head_accepted}
+use Rattle.rules.proofs.Refusal.{head_broken, head_kept}
 use Rattle.rules.proofs.Written.{joined_agree}
 use Rattle.text.specs.Text.{line_at, lines_text, rows_text, EqualCounts, equal_counts, room_refusal, sheet_refusal}
-use Rattle.text.proofs.Room.{room_short, room_enough, room_there}
 
 pub counted : (starts runs blocks : ℕ) → equal_counts starts runs blocks ≡ true → EqualCounts starts runs blocks
 unfolding equal_counts
@@ -34,13 +33,6 @@ counts_equal starts runs blocks c =
     and_both (le-leb starts 64 c.most) (and_both (eq-eqb runs starts c.runs_each) (eq-eqb blocks starts c.blocks-each))
 
 module _ (starts runs blocks : List ℕ) where
-  -- the line of train k, from the numbers that were read
-  pub line_read :
-      (k : ℕ) {start run block : ℕ} → start ≡ entry starts k → run ≡ entry runs k → block ≡ entry blocks k →
-      train_line (k + 1) start run block ≡ line_at starts runs blocks k
-  unfolding line_at
-  line_read k e f g = rw (e, f, g)
-
   pub rows-length : length (rows_text starts runs blocks) ≡ 22 + length (lines_text starts runs blocks)
   unfolding rows_text
   rows-length = rw length-append (omega (arith, header-length))
@@ -66,17 +58,3 @@ module _ (starts runs blocks : List ℕ) where
     pub counts_kept : same ≡ true → sheet_refusal starts runs blocks bytes ≡ room_refusal (rows_text starts runs blocks) bytes
     unfolding sheet_refusal room_refusal
     counts_kept e = head_kept 11 same later e
-
-    pub rows_short : same ≡ true → bytes < 22 + length (lines_text starts runs blocks) → 11 ≡ sheet_refusal starts runs blocks bytes
-    rows_short e h = room_short (rows_text starts runs blocks) bytes (omega (arith, rows-length)) ∙ sym (counts_kept e)
-
-    pub rows-enough : same ≡ true → 22 + length (lines_text starts runs blocks) ≤ bytes → 0 ≡ sheet_refusal starts runs blocks bytes
-    rows-enough e h = room_enough (rows_text starts runs blocks) bytes (omega (arith, rows-length)) ∙ sym (counts_kept e)
-
-    pub sheet-there :
-        sheet_refusal starts runs blocks bytes ≡ 0 →
-        EqualCounts (length starts) (length runs) (length blocks) × (length (rows_text starts runs blocks) ≤ bytes)
-    unfolding sheet_refusal room_refusal
-    sheet-there z =
-        let kept = head_accepted 11 same later (omega arith) z in
-        (counted _ _ _ kept.0, room_there (rows_text starts runs blocks) bytes kept.1)

@@ -1,1 +1,3 @@
+pub mod Columns
+pub mod Row
 pub mod Text

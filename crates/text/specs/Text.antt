@@ -1,16 +1,9 @@
 -- The sheet program's text in lent bytes.
-use Rattle.std.specs.Prelude.{ℕ, ◌+◌, ◌≤◌, Bool, cond, List, [], ◌∷◌, ◌++◌, ◌≡◌, leb, eqb, length}
+use Rattle.std.specs.Prelude.{ℕ, ◌+◌, ◌≤◌, Bool, List, [], ◌∷◌, ◌++◌, ◌≡◌, leb, eqb, length}
 use Rattle.rules.specs.Calls.{written}
 use Rattle.rules.specs.Count.{◌and◌, entry}
 use Rattle.rules.specs.Refusal.{rule, refusal}
 use Rattle.rules.specs.Text.{header, train_line, joined}
-use Rattle.text.specs.declared.WriteAnswer.{WriteAnswer}
-
--- ---- calls that write bytes: the number 0 and how many are written, or the number of refusal and 0
-
--- the answer of a call that has this number of refusal, or 0, and this text to write
-unfoldable pub write_answer : ℕ → List ℕ → WriteAnswer
-write_answer number text = cond (eqb number 0) (record { number = 0; bytes = length text }) (record { number = number; bytes = 0 })
 
 -- the text stands in the buffer from place `at` on, and `past` is the place behind it
 pub record Placed (buffer : List ℕ) (at : ℕ) (text : List ℕ) (past : ℕ) (after : List ℕ) : Type 0 where

@@ -3,19 +3,18 @@ ghost use Rattle.std.specs.Prelude.{◌+◌, ◌≤◌, length};
 ghost use Rattle.rules.specs.Text.{field};
 ghost use Rattle.text.specs.Text.{Placed};
 
+#[tactic(auto, unfolding(rules::specs::Calls::written))]
 pub(crate) fn write_bytes(buf: &mut [u8], at: usize, text: &[u8]) -> usize
     requires { at + length text.now ≤ length buf.old }
     ensures { Placed buf.old at text.now result buf.new }
 {
-    let mut i = 0;
-    while i < text.len() {
-        buf[at + i] = text[i];
-        i += 1;
-    }
-    at + i
+    let past = at + text.len();
+    buf[at..past].copy_from_slice(text);
+    past
 }
 
 // The digits before the last one, with the last one behind them, are a field too.
+#[tactic(auto, using(crate::proofs::Placed::field_some, crate::proofs::Placed::field_longer))]
 pub(crate) fn write_field(buf: &mut [u8], at: usize, n: u64, mark: u8) -> usize
     requires { at + length (field n mark) ≤ length buf.old }
     ensures { Placed buf.old at (field n mark) result buf.new }

@@ -1,32 +1,36 @@
 -- `put_refusal` meets its contract: the word, and the number behind it.
-use Prim.Native.Nat.{◌≤◌}
-use mathlib.Core.Path.{sym}
-use native.Mathlib.Omega.{arith}
-use lib.ListN.{length}
+use Rattle.std.proofs.Common.{sym, length, arith}
+use Rattle.std.proofs.lemmas.Result.{err_from_is_err_and}
 use Rattle.rules.specs.Text.{refusal_text}
 use Rattle.rules.proofs.Lengths.{field-length, refusal-length}
 use Rattle.text.proofs.Placed.{placed_then}
-use Rattle.text.proofs.Room.{refused_by, wrote_all, room_short, room_enough}
+use Rattle.text.proofs.Room.{left, wrote_all, unless_short, unless_fits, room_there}
 use Rattle.text.proofs.put_refusal.Goals as goal
 
-pub returns-then-buf-text : goal.returns-then-buf-text
-returns-then-buf-text c =
-    let buf = c.args.buf.now in
-    let text = refusal_text c.args.number in
-    let said = refused_by text buf (room_short text (length buf) (omega (arith, refusal-length c.args.number))) (λ z. omega arith) in
-    record { answer = said.0; bytes = said.1 }
+pub returns-in_err-unless-clause-refusal : goal.returns-in_err-unless-clause-refusal
+returns-in_err-unless-clause-refusal c =
+    let p = err_from_is_err_and c.from_residual.result c.from_residual.ensures.1 in
+    rw (p.1, p.2) (unless_short (refusal_text c.args.number) (length c.args.buf.now) (omega (arith, refusal-length c.args.number)) c.in_err-unless.ensures)
 
-pub write_field-end-requires : goal.write_field-end-requires
-write_field-end-requires c =
+pub returns-in_err-unless-clause-bytes : goal.returns-in_err-unless-clause-bytes
+returns-in_err-unless-clause-bytes c =
+    let short = unless_short (refusal_text c.args.number) (length c.args.buf.now) (omega (arith, refusal-length c.args.number)) c.in_err-unless.ensures in
+    left (refusal_text c.args.number) c.args.buf.now c.in_err-unless.field-0.0 short
+
+pub write_field-requires : goal.write_field-requires
+write_field-requires c =
     let number = c.args.number in
+    let fits = unless_fits (refusal_text number) (length c.args.buf.now) (omega (arith, refusal-length c.args.number)) c.in_ok-unless.ensures in
+    let room = room_there (refusal_text number) (length c.args.buf.now) (sym fits) in
     omega (arith, refusal-length number, field-length number 10)
 
 pub returns : goal.returns
 unfolding refusal_text
 returns c =
     let number = c.args.number in
-    let room : length (refusal_text number) ≤ length c.args.buf.now = omega (arith, refusal-length number) in
+    let fits = unless_fits (refusal_text number) (length c.args.buf.now) (omega (arith, refusal-length number)) c.in_ok-unless.ensures in
+    let room = room_there (refusal_text number) (length c.args.buf.now) (sym fits) in
     let said =
-    wrote_all _ _ (sym (room_enough _ _ room))
-    (placed_then (omega (arith, room, refusal-length number, field-length number 10)) c.write_bytes-at.ensures c.write_field-end.ensures) in
-    record { answer = said.0; bytes = said.1 }
+    wrote_all _ _ (sym fits)
+    (placed_then (omega (arith, room, refusal-length number, field-length number 10)) c.write_bytes-at.ensures c.write_field.ensures) in
+    record { refusal = fits; count = said.0; bytes = said.1 }
