@@ -38,5 +38,5 @@ pub fn train_cells(line: Line, train: Train) -> usize
     if step == 0 {
         return 0;
     }
-    (usize::from(train.length) + (step - 1)) / step
+    usize::from(train.length).div_ceil(step)
 }

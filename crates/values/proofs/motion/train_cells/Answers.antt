@@ -1,5 +1,7 @@
 use native.Mathlib.Nat.{div-zero}
-use mathlib.Core.Path.{sym, ◌∙◌}
+use native.Mathlib.Omega.{arith}
+use mathlib.Core.Path.{sym, ap₂, ◌∙◌}
+use Rattle.chains.proofs.Rounding.{ceil_div_is}
 use Rattle.rules.specs.Run.{train_cells}
 use Rattle.rules.specs.Count.{ceil_div}
 use Rattle.values.proofs.motion.train_cells.Goals as goal
@@ -9,5 +11,5 @@ unfolding train_cells ceil_div
 returns-then-step-eq0 c = rw (sym c.from-step.ensures ∙ c.if-step-eq0.true, div-zero)
 
 pub returns : goal.returns
-unfolding train_cells ceil_div
-returns c = rw (c.from-step.ensures, c.from.ensures)
+unfolding train_cells
+returns c = c.div_ceil.ensures ∙ (ceil_div_is _ _ (omega arith) ∙ ap₂ ceil_div c.from.ensures c.from-step.ensures)
