@@ -1,8 +1,9 @@
 -- What a `?` passes on, and what a rule that is tested by it says. Assumes nothing.
-use Rattle.std.specs.Prelude.{◌≡◌, Bool, true, false, Result, Ok, Err}
-use Rattle.std.proofs.Common.{refl}
+use Rattle.std.specs.Prelude.{◌≢◌, ◌≡◌, Bool, true, false, Result, Ok, Err}
+use Rattle.std.proofs.Common.{arith, refl}
 use Rattle.std.specs.Result.{IsErrAnd}
 use Rattle.refusals.specs.declared.Refusal.{Refusal}
+use Rattle.refusals.specs.declared.Refusal.TheVariants as refusals
 use Rattle.refusals.specs.Number.{number, refused_by, kept_or}
 
 -- a refusal that leaves by `?` keeps its number
@@ -26,3 +27,23 @@ last_kept x e h = rw (e, h)
 
 pub last_broken : {r : Result Unit Refusal} (x : Refusal) {kept : Bool} → r ≡ kept_or x kept → kept ≡ false → refused_by r ≡ number x
 last_broken x e h = rw (e, h)
+
+-- no refusal has the number 0, which is that of an accepted call
+pub numbered : (r : Refusal) → number r ≢ 0
+numbered refusals.FileTooShort = omega arith
+numbered refusals.FileTooLong = omega arith
+numbered refusals.Sizes = omega arith
+numbered refusals.LimitPoints = omega arith
+numbered refusals.Limits = omega arith
+numbered refusals.Blocks = omega arith
+numbered refusals.Bands = omega arith
+numbered refusals.Stops = omega arith
+numbered refusals.LastBlock = omega arith
+numbered refusals.NoSuchTrain = omega arith
+numbered refusals.TooLittleRoom = omega arith
+numbered refusals.Sheet = omega arith
+numbered refusals.SheetFull = omega arith
+numbered refusals.Hold = omega arith
+numbered refusals.Balises = omega arith
+numbered refusals.Placing = omega arith
+numbered refusals.NoPath = omega arith
