@@ -1,10 +1,11 @@
 -- Rule 15 of a decoded line, one balise after the other. Assumes nothing.
 use Prim.Native.Nat.{ℕ, zero, suc, ◌+◌, ◌-◌, ◌*◌, ◌≤◌, ◌<◌}
 use mathlib.Core.Bool.{Bool, true, false}
-use mathlib.Core.Path.{◌≡◌, refl, sym}
+use mathlib.Core.Path.{◌≡◌, refl, sym, ◌∙◌}
 use native.Mathlib.Nat.{zero-mul}
 use native.Mathlib.Omega.{arith}
-use lib.ListN.{length, get_or-eq_default}
+use lib.ListN.{length, length-take, get_or, get_or-eq_default, take}
+use lib.Seq.{get_or-take}
 use Rattle.rules.specs.Count.{entry}
 use Rattle.rules.specs.Admitted.{Rule15}
 use Rattle.rules.specs.Run.{balise_place}
@@ -78,3 +79,14 @@ module _ (l : Line) where
       let y : entry l.balise_metres 64 ≡ 0 = get_or-eq_default l.balise_metres 0 (omega arith) in
       let q = rw (z, y, zero-mul) at r.least in
       omega arith
+
+-- balise k of a loop over the entries in use, of which it read a point p and metres m
+pub at_turn : (l : Line) {k p m : ℕ} →
+    (k < length (take l.balise_count l.balise_points)) × (k < length (take l.balise_count l.balise_metres))
+    × ((d : ℕ) → p ≡ get_or (take l.balise_count l.balise_points) k d) × ((d : ℕ) → m ≡ get_or (take l.balise_count l.balise_metres) k d) →
+    (k < l.balise_count) × (p * l.step + m ≡ place_at l k) × (m ≡ entry l.balise_metres k)
+at_turn l {k} (i, j, p, m) =
+    let h : k < l.balise_count = omega (arith, length-take l.balise_count l.balise_points) in
+    let q = p 0 ∙ get_or-take l.balise_count l.balise_points k 0 h in
+    let n = m 0 ∙ get_or-take l.balise_count l.balise_metres k 0 h in
+    (h, rw (q, n), n)

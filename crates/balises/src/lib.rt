@@ -11,10 +11,7 @@ use values::{Line, place_of};
 fn last_place(points: u16, step: u16) -> u32
     ensures { result ≡ (points - 1) * step }
 {
-    if points == 0 {
-        return 0;
-    }
-    place_of(points - 1, 0, step)
+    place_of(points.saturating_sub(1), 0, step)
 }
 
 // Whether balises strictly rise in place, metres are below the step and no place lies beyond the last point. Entries past the array count
@@ -22,27 +19,19 @@ fn last_place(points: u16, step: u16) -> u32
 pub fn balises_kept(line: Line) -> bool
     ensures { result ≡ balises_rule (as_line line) }
 {
-    if 64 < line.balise_count {
+    let n = line.balise_count;
+    if 64 < n {
         return false;
     }
     let last = last_place(line.points, line.step);
     // The least place that the next balise may have.
     let mut least = 0;
-    let mut k = 0;
-    while k < line.balise_count {
-        let metres = line.balise_metres[k];
-        let place = place_of(line.balise_points[k], metres, line.step);
-        if line.step <= metres {
-            return false;
-        }
-        if place < least {
-            return false;
-        }
-        if last < place {
+    for (point, metres) in line.balise_points[..n].iter().zip(&line.balise_metres[..n]) {
+        let place = place_of(*point, *metres, line.step);
+        if line.step <= *metres || place < least || last < place {
             return false;
         }
         least = place + 1;
-        k += 1;
     }
     true
 }
