@@ -51,7 +51,7 @@ module _ (bytes : List ℕ) where
       points ≡ numbers bytes (stops_at bytes 0) (stop_count bytes 0) → dwells ≡ numbers bytes (dwells_at bytes 0) (stop_count bytes 0) →
       ◌≡◌ {A = Train}
       (record {
-        class = class;
+        class = record { 0 = class };
         length = length;
         band_count = bands;
         tops = tops;

@@ -37,7 +37,7 @@ decoded_file file = record { line = decoded_line file; trains = train_count file
 abbrev pub decoded_train : List ℕ → Train
 decoded_train bytes =
     record {
-      class = class_number bytes 0;
+      class = record { 0 = class_number bytes 0 };
       length = length_number bytes 0;
       band_count = band_count bytes 0;
       tops = numbers bytes (tops_at bytes 0) (band_count bytes 0);

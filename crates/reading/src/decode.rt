@@ -8,7 +8,7 @@ use crate::places::{
     RELEASE_TIME, SET_UP_TIME, STEP_LENGTH, STOP_COUNT, line_places, record_places,
 };
 use crate::words::{word_at, words_at};
-use values::{Line, Train};
+use values::{Line, Train, TrainClass};
 
 // A file's line, T, and the place of its first train record.
 #[derive(Clone, Copy)]
@@ -63,7 +63,7 @@ pub fn decode_train(bytes: &[u8]) -> Train
     let stops = word_at(bytes, STOP_COUNT);
     let places = record_places(bytes);
     Train {
-        class: word_at(bytes, CLASS_NUMBER),
+        class: TrainClass::from_number(word_at(bytes, CLASS_NUMBER)),
         length: word_at(bytes, LENGTH_NUMBER),
         band_count: usize::from(bands),
         tops: words_at(bytes, places.tops, bands),

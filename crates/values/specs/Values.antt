@@ -23,7 +23,7 @@ as_line l =
 abbrev pub as_train : Train → rules.Train
 as_train t =
     record {
-      class = t.class;
+      class = t.class.0;
       train_length = t.length;
       tops = row (entry t.tops) t.band_count;
       rates = row (entry t.rates) t.band_count;
@@ -57,7 +57,7 @@ no_line =
 abbrev pub no_train : Train
 no_train =
     record {
-      class = 0;
+      class = record { 0 = 0 };
       length = 0;
       band_count = 0;
       tops = zeros;

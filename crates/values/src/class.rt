@@ -1,44 +1,41 @@
 // The class of a train, and the practice braking rate that it has by a fixed table.
 ghost use Rattle.std.specs.Prelude.{◌≡◌};
 ghost use Rattle.rules.specs.Line.{practice_rate};
-ghost use Rattle.values.specs.Class.{number_of, Decodes};
 
-// A train's class, in the order of the file's numbers.
-#[derive(Clone, Copy, Debug, PartialEq, Eq)]
-pub enum TrainClass {
-    Intercity,
-    Stopping,
-    Goods,
-}
+// A train's class, by the file's number: document 01 names the form, a constant for each class, a constructor from the number and a table.
+#[derive(Clone, Copy)]
+pub struct TrainClass(pub u16);
 
-// A number that is no class.
-#[derive(Clone, Copy, Debug, PartialEq, Eq)]
-pub struct UnknownClass(pub u16);
-
-impl TryFrom<u16> for TrainClass {
-    type Error = UnknownClass;
-
-    ghost try_from_gives = { Decodes };
-
-    fn try_from(number: u16) -> Result<TrainClass, UnknownClass> {
-        match number {
-            0 => Ok(TrainClass::Intercity),
-            1 => Ok(TrainClass::Stopping),
-            2 => Ok(TrainClass::Goods),
-            _ => Err(UnknownClass(number)),
-        }
-    }
-}
+// In cm/s², by class.
+const PRACTICE_RATES: [u16; 3] = [50, 60, 31];
 
 impl TrainClass {
-    // In cm/s².
-    pub fn practice_rate(self) -> u16
-        ensures { result ≡ practice_rate (number_of self) }
+    pub const INTERCITY: TrainClass = TrainClass(0);
+
+    pub const STOPPING: TrainClass = TrainClass(1);
+
+    pub const GOODS: TrainClass = TrainClass(2);
+
+    // Any number of a file is taken; rule 3 refuses those that are no class.
+    pub fn from_number(number: u16) -> TrainClass
+        ensures { result.0 ≡ number }
     {
-        match self {
-            TrainClass::Intercity => 50,
-            TrainClass::Stopping => 60,
-            TrainClass::Goods => 31,
+        match number {
+            0 => TrainClass::INTERCITY,
+            1 => TrainClass::STOPPING,
+            2 => TrainClass::GOODS,
+            _ => TrainClass(number),
         }
+    }
+
+    // 0 where the number is no class.
+    pub fn practice_rate(self) -> u16
+        ensures { result ≡ practice_rate self.0 }
+    {
+        let number = usize::from(self.0);
+        if number < 3 {
+            return PRACTICE_RATES[number];
+        }
+        0
     }
 }

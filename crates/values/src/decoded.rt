@@ -1,5 +1,6 @@
 // The line and a train as the file's numbers, decoded once. Each count says how many entries of its arrays are in use: nothing is allocated,
 // so the arrays have a fixed size.
+use crate::class::TrainClass;
 
 #[derive(Clone, Copy)]
 pub struct Line {
@@ -25,8 +26,7 @@ pub struct Line {
 
 #[derive(Clone, Copy)]
 pub struct Train {
-    // The file's number, which may be no class.
-    pub class: u16,
+    pub class: TrainClass,
     // In m.
     pub length: u16,
     // Band tops in km/h, and rates in cm/s².
@@ -61,7 +61,7 @@ impl Line {
 impl Train {
     // What stands for a train where there is none.
     pub const NONE: Train = Train {
-        class: 0,
+        class: TrainClass(0),
         length: 0,
         band_count: 0,
         tops: [0; 64],

@@ -6,7 +6,7 @@ mod decoded;
 mod motion;
 mod speed;
 
-pub use class::{TrainClass, UnknownClass};
+pub use class::TrainClass;
 pub use decoded::{Line, Train};
 pub use motion::{braking_loss, change_over, place_of, train_cells};
 pub use speed::{Speed, SquaredSpeed};

@@ -3,7 +3,6 @@ ghost use Rattle.std.specs.Prelude.{◌≡◌, ◌+◌, ◌*◌, ◌<◌};
 ghost use Rattle.rules.specs.Run.{change, braking_loss, train_cells};
 ghost use Rattle.values.specs.Values.{as_line, as_train};
 
-use crate::class::TrainClass;
 use crate::decoded::{Line, Train};
 
 // The place, in m from point 0, of what lies so many metres past a point.
@@ -20,14 +19,11 @@ pub fn change_over(rate: u16, step: u16) -> u64
     u64::from(rate) * 2592 * u64::from(step)
 }
 
-// G, the squared speed lost over one step at the practice braking rate; 0 where the train's number is no class.
+// G, the squared speed lost over one step at the practice braking rate.
 pub fn braking_loss(line: Line, train: Train) -> u64
     ensures { result ≡ braking_loss (as_line line) (as_train train) }
 {
-    match TrainClass::try_from(train.class) {
-        Ok(class) => change_over(class.practice_rate(), line.step),
-        Err(_) => 0,
-    }
+    change_over(train.class.practice_rate(), line.step)
 }
 
 // The train's length in steps, rounded up; 0 for a step of 0.
