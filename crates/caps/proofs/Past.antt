@@ -3,29 +3,40 @@ use Prim.Native.Nat.{ℕ, zero, suc, ◌+◌, ◌-◌, ◌≤◌, ◌<◌}
 use mathlib.Core.Bool.{Bool, true, false, cond}
 use mathlib.Core.List.{List}
 use mathlib.Core.Path.{◌≡◌, refl}
-use native.Mathlib.Numerals.{add-one}
+use native.Mathlib.Nat.{add-zero}
 use native.Mathlib.Omega.{arith}
 use lib.Dec.{leb}
+use lib.ListN.{length, take}
+use lib.Seq.{length-take-le, get_or-take}
 use borrow.Author.Tests.{leb-true, leb-false, le-leb, lt-leb}
 use Rattle.rules.specs.Count.{entry}
 use Rattle.rules.proofs.Count.{below_suc}
 use Rattle.caps.specs.Caps.{past_from, past}
 
-module _ (places : List ℕ) (n reach k : ℕ) where
-  -- the next place is not reached
-  pub past-here : k < n → reach < entry places k → k ≡ past places n k reach
-  unfolding past_from
-  past-here h m = let more : n - k ≡ suc (n - suc k) = omega arith in rw (more, lt-leb (entry places k) reach m)
+-- so many places from k on are reached, and the next is not
+past_is :
+    (places : List ℕ) (reach left k more : ℕ) → more ≤ left → ((j : ℕ) → j < more → entry places (k + j) ≤ reach) →
+    (more < left → reach < entry places (k + more)) → k + more ≡ past_from places reach left k
+unfolding past_from
+past_is places reach zero k more m before here = omega arith
+past_is places reach (suc left) k zero m before here =
+    let next : reach < entry places k = rw add-zero at (here (omega arith)) in
+    rw (lt-leb (entry places k) reach next) (omega arith)
+past_is places reach (suc left) k (suc more) m before here =
+    let reached : entry places k ≤ reach = rw add-zero at (before 0 (omega arith)) in
+    let on : suc k + more ≡ past_from places reach left (suc k) =
+    past_is places reach left (suc k) more (omega arith) (λ j h. let e : k + suc j ≡ suc k + j = omega arith in rw e at (before (suc j) (omega arith)))
+    (λ h. let e : k + suc more ≡ suc k + more = omega arith in rw e at (here (omega arith))) in
+    rw (le-leb (entry places k) reach reached) (omega arith)
 
-  -- it is
-  pub past_on : k < n → entry places k ≤ reach → past places n (k + 1) reach ≡ past places n k reach
-  unfolding past_from
-  past_on h m = let more : n - k ≡ suc (n - suc k) = omega arith in rw (add-one, more, le-leb (entry places k) reach m)
-
-  -- there is none
-  pub past_end : n ≤ k → k ≡ past places n k reach
-  unfolding past_from
-  past_end h = let none : n - k ≡ 0 = omega arith in rw none
+-- among the entries in use
+pub past_taken :
+    (at : List ℕ) {n : ℕ} (k reach : ℕ) {more : ℕ} → n ≤ length at → more ≤ length (take n at) - k → ((j : ℕ) → j < more → entry (take n at) (k + j) ≤ reach) →
+    (more < length (take n at) - k → reach < entry (take n at) (k + more)) → k + more ≡ past at n k reach
+past_taken at {n} k reach {more} h m before here =
+    let long : length (take n at) ≡ n = length-take-le n at h in
+    past_is at reach (n - k) k more (omega arith) (λ j l. rw (get_or-take n at (k + j) 0 (omega arith)) at (before j l))
+    (λ l. rw (get_or-take n at (k + more) 0 (omega arith)) at (here (omega arith)))
 
 -- of n places, the first k are reached
 pub record AtMost (place : ℕ → ℕ) (n reach k : ℕ) : Type 0 where

@@ -27,12 +27,12 @@ use Rattle.caps.proofs.Past.{AtMost, Reached, past_reached}
 use Rattle.caps.proofs.Covering.{limit_place, IsCovered, reached_first, covered_lowest}
 
 -- the arrays and numbers that the code goes by are those of the line and the train
-pub record IsCourse (l : Line) (t : Train) (limits_at limits balises_at : List ℕ) (c : Course) : Type 0 where
-  pub limit_count_lem : in_use c.limit_count ≡ length l.limit_points
-  pub balise_count_lem : in_use c.balise_count ≡ length l.balise_points
-  pub limit_places_lem : (k : ℕ) → k < length l.limit_points → entry limits_at k ≡ limit_place l k
-  pub limits_are : (k : ℕ) → k < length l.limit_points → entry limits k ≡ entry l.limits k
-  pub balise_places_lem : (k : ℕ) → k < length l.balise_points → entry balises_at k ≡ balise_place l k
+pub record IsCourse (l : Line) (t : Train) (c : Course) : Type 0 where
+  pub limit_count_lem : in_use c.limits_at.count ≡ length l.limit_points
+  pub balise_count_lem : in_use c.balises_at.count ≡ length l.balise_points
+  pub limit_places_lem : (k : ℕ) → k < length l.limit_points → entry c.limits_at.at k ≡ limit_place l k
+  pub limits_are : (k : ℕ) → k < length l.limit_points → entry c.limits k ≡ entry l.limits k
+  pub balise_places_lem : (k : ℕ) → k < length l.balise_points → entry c.balises_at.at k ≡ balise_place l k
   pub step_is : c.step ≡ l.step
   pub train-length : c.length ≡ t.train_length
   pub top : c.top ≡ last_top t
@@ -72,8 +72,8 @@ module _ (line : decoded_line.Line) (train : decoded_train.Train) (a : Admitted 
 
   pub course_is :
       {limits balises : Places} {top : ℕ} → limits ≡ limit_places line → balises ≡ balise_places line → top ≡ last_top (as_train train) →
-      IsCourse on_line (as_train train) limits.at line.limits balises.at
-      (record { limit_count = limits.count; balise_count = balises.count; step = line.step; length = train.length; top = top })
+      IsCourse on_line (as_train train)
+      (record { limits_at = limits; limits = line.limits; balises_at = balises; step = line.step; length = train.length; top = top })
   unfolding limit_places balise_places balise_place places_of
   course_is p q e =
       let few : line.limit_count ≤ 64 = rw length-row at a.rule3_line.limits-most in
@@ -110,8 +110,8 @@ module _ (l : Line) (t : Train) (a : Admitted l t) where
   reached_none : (i : ℕ) → Reached (balise_place l) (length l.balise_points) (i * l.step) 0 → distance_from l i ≡ 0
   reached_none i r = rw (none_passed l i (λ k h. omega (arith, r.ahead (omega arith), places-rise l t a 0 k (omega arith) h)))
 
-  module _ {limits_at limits balises_at : List ℕ} {c : Course} (is : IsCourse l t limits_at limits balises_at c) where
-    from_is : (i k : ℕ) → Reached (balise_place l) (length l.balise_points) (i * l.step) k → last_place balises_at k ≡ distance_from l i
+  module _ {c : Course} (is : IsCourse l t c) where
+    from_is : (i k : ℕ) → Reached (balise_place l) (length l.balise_points) (i * l.step) k → last_place c.balises_at.at k ≡ distance_from l i
     unfolding last_place
     from_is i zero r = sym (reached_none i r)
     from_is i (suc k) r =
@@ -119,11 +119,11 @@ module _ (l : Line) (t : Train) (a : Admitted l t) where
         rw (ne_eqb (suc k) 0 (λ z. omega arith), last) (is.balise_places_lem k (omega (arith, r.most)) ∙ sym (reached_from i k r))
 
     rear_is : (i k : ℕ) → Reached (balise_place l) (length l.balise_points) (i * l.step) k →
-        rear_at c.length (last_place balises_at k) (i * l.step) ≡ rear l t i
+        rear_at c.length (last_place c.balises_at.at k) (i * l.step) ≡ rear l t i
     unfolding grown_length distance
     rear_is i k r = rw (from_is i k r, is.train-length)
 
-    limit_ahead : (k : ℕ) → k < length l.limit_points → place_ahead limits_at (in_use c.limit_count) k ≡ limit_place l k
+    limit_ahead : (k : ℕ) → k < length l.limit_points → place_ahead c.limits_at.at (in_use c.limits_at.count) k ≡ limit_place l k
     unfolding place_ahead
     limit_ahead k h = rw (is.limit_count_lem, lt-ltb k (length l.limit_points) h) (is.limit_places_lem k h)
 
@@ -134,9 +134,9 @@ module _ (l : Line) (t : Train) (a : Admitted l t) where
         (r : Reached (limit_place l) (length l.limit_points) (rear l t i) tail)
         (b : Reached (balise_place l) (length l.balise_points) (i * l.step) balises) where
       abbrev now : Covered
-      now = covering limits_at limits balises_at c head tail balises
+      now = covering c head tail balises
 
-      lowest : lowest_limit limits c.top tail head ≡ lowest_from (entry l.limits) (last_top t) (tail - 1) (head - (tail - 1))
+      lowest : lowest_limit c.limits c.top tail head ≡ lowest_from (entry l.limits) (last_top t) (tail - 1) (head - (tail - 1))
       unfolding lowest_limit
       lowest =
           let few : min head 64 ≡ head = omega (arith, h.most, a.parallel.limits, a.rule3_line.limits-most) in
@@ -145,9 +145,9 @@ module _ (l : Line) (t : Train) (a : Admitted l t) where
       -- the place before which nothing is passed: where the head or the rear next reaches a limit, and the head a balise
       abbrev ahead : ℕ
       ahead =
-          min (place_ahead limits_at (in_use c.limit_count) head)
-          (min (place_ahead balises_at (in_use c.balise_count) balises)
-          (head_for c.length (last_place balises_at balises) (place_ahead limits_at (in_use c.limit_count) tail)))
+          min (place_ahead c.limits_at.at (in_use c.limits_at.count) head)
+          (min (place_ahead c.balises_at.at (in_use c.balises_at.count) balises)
+          (head_for c.length (last_place c.balises_at.at balises) (place_ahead c.limits_at.at (in_use c.limits_at.count) tail)))
 
       before-ahead : (j : ℕ) → j < now.until → j * l.step < ahead
       unfolding covering
@@ -165,7 +165,7 @@ module _ (l : Line) (t : Train) (a : Admitted l t) where
       by_balise : balises < length l.balise_points → ahead ≤ balise_place l balises
       unfolding place_ahead
       by_balise p =
-          let next : place_ahead balises_at (in_use c.balise_count) balises ≡ balise_place l balises =
+          let next : place_ahead c.balises_at.at (in_use c.balises_at.count) balises ≡ balise_place l balises =
           rw (is.balise_count_lem, lt-ltb balises (length l.balise_points) p) (is.balise_places_lem balises p) in
           omega arith
 
@@ -221,14 +221,14 @@ module _ (l : Line) (t : Train) (a : Admitted l t) where
 
     -- ---- from point to point
 
-    pub known_at : (i : ℕ) {point : ℕ} {v w : Covered} → point ≡ i → Nearing l t i v → w ≡ covered_at limits_at limits balises_at c point v → Known l t i w
+    pub known_at : (i : ℕ) {point : ℕ} {v w : Covered} → point ≡ i → Nearing l t i v → w ≡ covered_at c point v → Known l t i w
     unfolding covered_at
     known_at i {v = v} f u e =
-        let passed = past_reached balises_at (i * l.step) v.balises is.balise_count_lem is.balise_places_lem u.balises-behind in
+        let passed = past_reached c.balises_at.at (i * l.step) v.balises is.balise_count_lem is.balise_places_lem u.balises-behind in
         let place : i * c.step ≡ i * l.step = ap (λ (step : ℕ). i * step) is.step_is in
         rw (e, f, place, rear_is i _ passed)
-        (known i _ _ _ (past_reached limits_at (i * l.step) v.head is.limit_count_lem is.limit_places_lem u.head_behind)
-        (past_reached limits_at (rear l t i) v.tail is.limit_count_lem is.limit_places_lem u.tail_behind) passed)
+        (known i _ _ _ (past_reached c.limits_at.at (i * l.step) v.head is.limit_count_lem is.limit_places_lem u.head_behind)
+        (past_reached c.limits_at.at (rear l t i) v.tail is.limit_count_lem is.limit_places_lem u.tail_behind) passed)
 
   -- before point 0
   pub nearing_first : {v : Covered} → v ≡ record { head = 1; tail = 1; balises = 0; lowest = 0; until = 0 } → Nearing l t 0 v

@@ -52,25 +52,25 @@ unfoldable pub lowest_limit : List ℕ → ℕ → ℕ → ℕ → ℕ
 lowest_limit limits top tail head = lowest_from (entry limits) top (tail - 1) (min head 64 - (tail - 1))
 
 -- what is covered once the head and the tail have reached so many limits and the head so many balises
-unfoldable pub covering : List ℕ → List ℕ → List ℕ → Course → ℕ → ℕ → ℕ → Covered
-covering limits_at limits balises_at c head tail balises =
+unfoldable pub covering : Course → ℕ → ℕ → ℕ → Covered
+covering c head tail balises =
     record {
       head = head;
       tail = tail;
       balises = balises;
-      lowest = lowest_limit limits c.top tail head;
+      lowest = lowest_limit c.limits c.top tail head;
       until =
           ceil_div
-          (min (place_ahead limits_at (in_use c.limit_count) head)
-          (min (place_ahead balises_at (in_use c.balise_count) balises)
-          (head_for c.length (last_place balises_at balises) (place_ahead limits_at (in_use c.limit_count) tail)))) c.step;
+          (min (place_ahead c.limits_at.at (in_use c.limits_at.count) head)
+          (min (place_ahead c.balises_at.at (in_use c.balises_at.count) balises)
+          (head_for c.length (last_place c.balises_at.at balises) (place_ahead c.limits_at.at (in_use c.limits_at.count) tail)))) c.step;
     }
 
 -- what is covered with the head at a point, from what was covered before: the places that lie between are passed
-unfoldable pub covered_at : List ℕ → List ℕ → List ℕ → Course → ℕ → Covered → Covered
-covered_at limits_at limits balises_at c point before =
+unfoldable pub covered_at : Course → ℕ → Covered → Covered
+covered_at c point before =
     let x : ℕ = point * c.step in
-    let limit_count : ℕ = in_use c.limit_count in
-    let balises : ℕ = past balises_at (in_use c.balise_count) before.balises x in
-    covering limits_at limits balises_at c (past limits_at limit_count before.head x)
-    (past limits_at limit_count before.tail (rear_at c.length (last_place balises_at balises) x)) balises
+    let limit_count : ℕ = in_use c.limits_at.count in
+    let balises : ℕ = past c.balises_at.at (in_use c.balises_at.count) before.balises x in
+    covering c (past c.limits_at.at limit_count before.head x)
+    (past c.limits_at.at limit_count before.tail (rear_at c.length (last_place c.balises_at.at balises) x)) balises

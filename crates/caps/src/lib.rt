@@ -1,24 +1,24 @@
 // The cap speed of a train under way: the lowest of the limits that its grown length covers and its last band's top. The head, the tail and the
-// balises only move forward along the line. Of each array the first entries are in use, up to their count and no more than 64.
+// balises only move forward along the line.
 #![tactic(auto)]
 
-mod numbers;
 mod places;
 
-ghost use Rattle.std.specs.Prelude.{◌≡◌};
+ghost use Rattle.std.specs.Prelude.{◌≡◌, min, take, drop};
+ghost use Rattle.std.specs.List.{fold};
 ghost use Rattle.caps.specs.Caps.{lowest_limit, covering, covered_at};
 
-use numbers::{less, lesser};
 pub use places::{Places, balise_places, limit_places};
-use places::{head_for, last_place, passed, place_ahead, point_at, rear_at};
+use places::{head_for, point_at, rear_at};
 use values::place_of;
-use widths::{least, wide};
 
-// What does not change along the line: the counts in use, the step and the train's length in m, and its last band's top in km/h.
+// What does not change along the line: where the limits begin and each in km/h, the places of the balises, the step and the train's length in
+// m, and its last band's top in km/h.
 #[derive(Clone, Copy)]
 pub struct Course {
-    pub limit_count: usize,
-    pub balise_count: usize,
+    pub limits_at: Places,
+    pub limits: [u16; 64],
+    pub balises_at: Places,
     pub step: u16,
     pub length: u16,
     pub top: u32,
@@ -46,65 +46,52 @@ impl Covered {
     };
 }
 
-// The lowest of the top and the limits from the tail's to the head's.
-fn lowest_limit(limits: &[u16; 64], top: u32, tail: usize, head: usize) -> u32
-    ensures { result ≡ lowest_limit limits.now top tail head }
+// The lowest of the top and the limits from number `first` on and before number `end`.
+fn lowest_of(limits: &[u16], top: u32, first: usize, end: usize) -> u32
+    ensures { result ≡ fold min top (drop first (take end limits.now)) }
 {
-    let first = less(tail, 1);
-    let mut lowest = top;
-    let mut left = less(least(head, 64), first);
-    while 0 < left {
-        left -= 1;
-        lowest = lesser(wide(limits[first + left]), lowest);
-    }
-    lowest
+    limits
+        .iter()
+        .take(end)
+        .skip(first)
+        .map(|limit| u32::from(*limit))
+        .fold(top, u32::min)
 }
 
-// What is covered once the head and the tail have reached so many limits and the head so many balises.
-fn cover<'a>(
-    limits_at: &'a [u32; 64],
-    limits: &'a [u16; 64],
-    balises_at: &'a [u32; 64],
-    course: Course,
-    head: usize,
-    tail: usize,
-    balises: usize,
-) -> Covered
-    ensures { result ≡ covering limits_at.now limits.now balises_at.now course head tail balises }
-{
-    let from = last_place(balises_at, balises);
-    let by_tail = head_for(
-        course.length,
-        from,
-        place_ahead(limits_at, course.limit_count, tail),
-    );
-    let by_head = place_ahead(limits_at, course.limit_count, head);
-    let by_balise = place_ahead(balises_at, course.balise_count, balises);
-    Covered {
-        head,
-        tail,
-        balises,
-        lowest: lowest_limit(limits, course.top, tail, head),
-        until: point_at(lesser(by_head, lesser(by_balise, by_tail)), course.step),
+impl Course {
+    // The lowest of the top and the limits from the tail's to the head's.
+    fn lowest_limit(&self, tail: usize, head: usize) -> u32
+        ensures { result ≡ lowest_limit self.now.limits self.now.top tail head }
+    {
+        lowest_of(&self.limits, self.top, tail.saturating_sub(1), head)
     }
-}
 
-// What is covered with the head at a point, from what was covered before.
-pub fn covered_at<'a>(
-    limits_at: &'a [u32; 64],
-    limits: &'a [u16; 64],
-    balises_at: &'a [u32; 64],
-    course: Course,
-    point: u16,
-    before: Covered,
-) -> Covered
-    ensures { result ≡ covered_at limits_at.now limits.now balises_at.now course point before }
-{
-    let x = place_of(point, 0, course.step);
-    let balises = passed(balises_at, course.balise_count, before.balises, x);
-    let from = last_place(balises_at, balises);
-    let rear = rear_at(course.length, from, x);
-    let head = passed(limits_at, course.limit_count, before.head, x);
-    let tail = passed(limits_at, course.limit_count, before.tail, rear);
-    cover(limits_at, limits, balises_at, course, head, tail, balises)
+    // What is covered once the head and the tail have reached so many limits and the head so many balises.
+    fn cover(&self, head: usize, tail: usize, balises: usize) -> Covered
+        ensures { result ≡ covering self.now head tail balises }
+    {
+        let from = self.balises_at.last_of(balises);
+        let by_head = self.limits_at.ahead(head);
+        let by_tail = head_for(self.length, from, self.limits_at.ahead(tail));
+        let by_balise = self.balises_at.ahead(balises);
+        Covered {
+            head,
+            tail,
+            balises,
+            lowest: self.lowest_limit(tail, head),
+            until: point_at(by_head.min(by_balise.min(by_tail)), self.step),
+        }
+    }
+
+    // What is covered with the head at a point, from what was covered before.
+    pub fn covered_at(&self, point: u16, before: Covered) -> Covered
+        ensures { result ≡ covered_at self.now point before }
+    {
+        let x = place_of(point, 0, self.step);
+        let balises = self.balises_at.passed(before.balises, x);
+        let rear = rear_at(self.length, self.balises_at.last_of(balises), x);
+        let head = self.limits_at.passed(before.head, x);
+        let tail = self.limits_at.passed(before.tail, rear);
+        self.cover(head, tail, balises)
+    }
 }

@@ -1,7 +1,6 @@
-use mathlib.Core.Path.{◌∙◌}
-use Rattle.rules.specs.Count.{ceil_div}
+use Rattle.std.proofs.Common.{◌-◌, ◌+◌, ◌*◌, arith}
+use Rattle.chains.proofs.Rounding.{ceil_div_is}
 use Rattle.caps.proofs.places.head_for.Goals as goal
 
 pub returns : goal.returns
-unfolding ceil_div
-returns c = c.narrow.ensures ∙ rw (c.less.ensures, c.wide64-3.ensures, c.wide64-2.ensures.0, c.wide64.ensures)
+returns c = omega (arith, ceil_div_is (50 * (c.args.place + c.args.length + 2) - c.args.from) 49 (omega arith))
