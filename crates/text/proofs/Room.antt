@@ -1,16 +1,17 @@
 -- What a call answers and leaves, by its number of refusal. Assumes nothing.
 use Prim.Native.Nat.{ℕ, ◌≤◌, ◌<◌}
 use mathlib.Core.List.{List, []}
-use mathlib.Core.Path.{◌≡◌, refl, sym, ◌∙◌}
+use mathlib.Core.Path.{◌≡◌, sym, ◌∙◌}
 use native.Mathlib.Nat.{zero-add}
 use native.Mathlib.Omega.{arith}
 use lib.Dec.{leb}
 use lib.ListN.{length}
 use borrow.Author.Tests.{leb-true, leb-false, le-leb, lt-leb}
-use Rattle.std.proofs.Common.{Ok, Err, false, true, Bool}
+use Rattle.std.proofs.Common.{Ok, Err}
 use Rattle.refusals.specs.declared.Refusal.{Refusal}
 use Rattle.refusals.specs.declared.Refusal.TheVariants as refusals
 use Rattle.refusals.specs.Number.{number, kept_or}
+use Rattle.refusals.proofs.Passing.{numbered, refuses, passes}
 use Rattle.rules.specs.Calls.{lent_after}
 use Rattle.rules.proofs.Calls.{lent_written, lent_kept}
 use Rattle.rules.proofs.Refusal.{refusal-none, head_broken, head_kept, head_accepted}
@@ -18,30 +19,10 @@ use Rattle.text.specs.Text.{Placed, room_refusal}
 
 -- ---- a call with this number of refusal
 
--- 0 is no refusal's number
-pub number_some : (r : Refusal) → number r ≡ 0 → ⊥
-number_some refusals.FileTooShort z = omega arith
-number_some refusals.FileTooLong z = omega arith
-number_some refusals.Sizes z = omega arith
-number_some refusals.LimitPoints z = omega arith
-number_some refusals.Limits z = omega arith
-number_some refusals.Blocks z = omega arith
-number_some refusals.Bands z = omega arith
-number_some refusals.Stops z = omega arith
-number_some refusals.LastBlock z = omega arith
-number_some refusals.NoSuchTrain z = omega arith
-number_some refusals.TooLittleRoom z = omega arith
-number_some refusals.Sheet z = omega arith
-number_some refusals.SheetFull z = omega arith
-number_some refusals.Hold z = omega arith
-number_some refusals.Balises z = omega arith
-number_some refusals.Placing z = omega arith
-number_some refusals.NoPath z = omega arith
-
 module _ (text buffer : List ℕ) {told : ℕ} where
   -- a refusal leaves the buffer
   pub left : (r : Refusal) → number r ≡ told → buffer ≡ lent_after told text buffer
-  left r e = rw (sym e) (sym (lent_kept text buffer (number_some r)))
+  left r e = rw (sym e) (sym (lent_kept text buffer (numbered r)))
 
   pub wrote_all :
       {past : ℕ} {after : List ℕ} → told ≡ 0 → Placed buffer 0 text past after → (past ≡ length text) × (after ≡ lent_after told text buffer)
@@ -62,23 +43,15 @@ module _ (text : List ℕ) (bytes : ℕ) where
   unfolding room_refusal
   room_there z = leb-true (length text) bytes (head_accepted 11 (leb (length text) bytes) [] (omega arith) z).0
 
--- ---- a test that a call makes by `unless`
-
-pub unless_broken : (kept : Bool) (r : Refusal) {e : Refusal} → Err e ≡ kept_or r kept → (e ≡ r) × (kept ≡ false)
-unless_broken true r h = absurd (cc)
-unless_broken false r h = (cc, refl)
-
-pub unless_kept : (kept : Bool) (r : Refusal) {u : Unit} → Ok u ≡ kept_or r kept → kept ≡ true
-unless_kept true r h = refl
-unless_kept false r h = absurd (cc)
+-- ---- the test of a call
 
 -- that a text of this length fits
 module _ (text : List ℕ) (bytes : ℕ) {counted : ℕ} (long : counted ≡ length text) where
   pub unless_short : {e : Refusal} → Err e ≡ kept_or refusals.TooLittleRoom (leb counted bytes) → number e ≡ room_refusal text bytes
   unless_short h =
-      let broken = unless_broken (leb counted bytes) refusals.TooLittleRoom h in
-      let short : bytes < length text = rw long at (leb-false counted bytes broken.1) in
-      rw broken.0 (room_short text bytes short)
+      let broken = refuses refusals.TooLittleRoom _ (leb counted bytes) h in
+      let short : bytes < length text = rw long at (leb-false counted bytes broken.0) in
+      broken.1 ∙ room_short text bytes short
 
-  pub unless_fits : {u : Unit} → Ok u ≡ kept_or refusals.TooLittleRoom (leb counted bytes) → 0 ≡ room_refusal text bytes
-  unless_fits h = room_enough text bytes (rw long at (leb-true counted bytes (unless_kept (leb counted bytes) refusals.TooLittleRoom h)))
+  pub unless_fits : Ok tt ≡ kept_or refusals.TooLittleRoom (leb counted bytes) → 0 ≡ room_refusal text bytes
+  unless_fits h = room_enough text bytes (rw long at (leb-true counted bytes (passes refusals.TooLittleRoom (leb counted bytes) h)))

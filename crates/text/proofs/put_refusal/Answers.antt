@@ -1,21 +1,21 @@
 -- `put_refusal` meets its contract: the word, and the number behind it.
-use Rattle.std.proofs.Common.{sym, length, arith}
-use Rattle.std.proofs.lemmas.Result.{err_from_is_err_and}
+use Rattle.std.proofs.Common.{sym, length, arith, ◌∙◌}
+use Rattle.std.proofs.lemmas.Result.{IfOk-from_err}
+use Rattle.refusals.proofs.Passing.{passed_on}
 use Rattle.rules.specs.Text.{refusal_text}
 use Rattle.rules.proofs.Lengths.{field-length, refusal-length}
 use Rattle.text.proofs.Placed.{placed_then}
 use Rattle.text.proofs.Room.{left, wrote_all, unless_short, unless_fits, room_there}
 use Rattle.text.proofs.put_refusal.Goals as goal
 
-pub returns-in_err-unless-clause-refusal : goal.returns-in_err-unless-clause-refusal
-returns-in_err-unless-clause-refusal c =
-    let p = err_from_is_err_and c.from_residual.result c.from_residual.ensures.1 in
-    rw (p.1, p.2) (unless_short (refusal_text c.args.number) (length c.args.buf.now) (omega (arith, refusal-length c.args.number)) c.in_err-unless.ensures)
-
-pub returns-in_err-unless-clause-bytes : goal.returns-in_err-unless-clause-bytes
-returns-in_err-unless-clause-bytes c =
-    let short = unless_short (refusal_text c.args.number) (length c.args.buf.now) (omega (arith, refusal-length c.args.number)) c.in_err-unless.ensures in
-    left (refusal_text c.args.number) c.args.buf.now c.in_err-unless.field-0.0 short
+pub returns-in_err-unless : goal.returns-in_err-unless
+returns-in_err-unless c =
+    let told = unless_short (refusal_text c.args.number) (length c.args.buf.now) (omega (arith, refusal-length c.args.number)) c.in_err-unless.ensures in
+    record {
+      refusal = passed_on _ _ c.from_residual.ensures.1 ∙ told;
+      count = IfOk-from_err _ _ c.from_residual.ensures.0;
+      bytes = left _ _ _ told;
+    }
 
 pub write_field-requires : goal.write_field-requires
 write_field-requires c =

@@ -1,6 +1,7 @@
 -- `put_sheet` meets its contract: the header, and the lines behind it.
 use Rattle.std.proofs.Common.{◌≡◌, ◌+◌, true, false, sym, refl, ap, length, arith, ◌∙◌}
-use Rattle.std.proofs.lemmas.Result.{err_from_is_err_and}
+use Rattle.std.proofs.lemmas.Result.{IfOk-from_err}
+use Rattle.refusals.proofs.Passing.{passed_on}
 use Rattle.refusals.specs.declared.Refusal.TheVariants as refusals
 use Rattle.refusals.specs.Number.{number}
 use Rattle.rules.specs.Text.{header}
@@ -14,18 +15,16 @@ use Rattle.text.proofs.put_sheet.Goals as goal
 pub returns-in_err-columns : goal.returns-in_err-columns
 returns-in_err-columns c =
     let a = c.args in
-    let p = err_from_is_err_and c.from_residual.result c.from_residual.ensures.1 in
     let e = c.in_err-columns.ensures in
     let none : equal_counts (length a.starts.now) (length a.runs.now) (length a.blocks.now) ≡ false = sym (e.variant ∙ c.new.ensures.counted) in
     let room : c.in_err-columns.field-0.0 ≡ refusals.TooLittleRoom = cc (rw e.ok_part at e.value) in
     let told : number c.in_err-columns.field-0.0 ≡ sheet_refusal a.starts.now a.runs.now a.blocks.now (length a.buf.now)
     = ap number room ∙ counts_refused a.starts.now a.runs.now a.blocks.now (length a.buf.now) none in
-    record { refusal = rw (p.1, p.2) told; count = rw p.1 tt; bytes = left _ _ _ told }
+    record { refusal = passed_on _ _ c.from_residual.ensures.1 ∙ told; count = IfOk-from_err _ _ c.from_residual.ensures.0; bytes = left _ _ _ told }
 
 pub returns-in_err-unless : goal.returns-in_err-unless
 returns-in_err-unless c =
     let a = c.args in
-    let p = err_from_is_err_and c.from_residual-in_err-unless.result c.from_residual-in_err-unless.ensures.1 in
     let all : equal_counts (length a.starts.now) (length a.runs.now) (length a.blocks.now) ≡ true = sym (c.in_ok-columns.ensures.variant ∙ c.new.ensures.counted) in
     let same = rw c.in_ok-columns.ensures.ok_part at c.new.ensures.same in
     let lines : lines_of c.in_ok-columns.columns ≡ lines_text a.starts.now a.runs.now a.blocks.now = rw (same.0, same.1, same.2) refl in
@@ -33,7 +32,7 @@ returns-in_err-unless c =
     = omega (arith, c.text_length.ensures.0, rw lines at c.text_length.ensures.0, rows-length a.starts.now a.runs.now a.blocks.now) in
     let told : number c.in_err-unless.field-0.0 ≡ sheet_refusal a.starts.now a.runs.now a.blocks.now (length a.buf.now)
     = unless_short _ _ long c.in_err-unless.ensures ∙ sym (counts_kept a.starts.now a.runs.now a.blocks.now (length a.buf.now) all) in
-    record { refusal = rw (p.1, p.2) told; count = rw p.1 tt; bytes = left _ _ _ told }
+    record { refusal = passed_on _ _ c.from_residual-in_err-unless.ensures.1 ∙ told; count = IfOk-from_err _ _ c.from_residual-in_err-unless.ensures.0; bytes = left _ _ _ told }
 
 pub returns : goal.returns
 unfolding rows_text header
