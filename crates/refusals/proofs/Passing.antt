@@ -1,7 +1,7 @@
 -- What a `?` passes on, and what a rule that is tested by it says. Assumes nothing.
 use Rattle.std.specs.Prelude.{◌≢◌, ◌≡◌, Bool, true, false, Result, Ok, Err}
-use Rattle.std.proofs.Common.{arith, refl}
-use Rattle.std.specs.Result.{IsErrAnd}
+use Rattle.std.proofs.Common.{arith, refl, rules}
+use Rattle.std.specs.Result.{IsErrAnd, IsOk}
 use Rattle.refusals.specs.declared.Refusal.{Refusal}
 use Rattle.refusals.specs.declared.Refusal.TheVariants as refusals
 use Rattle.refusals.specs.Number.{number, refused_by, kept_or}
@@ -47,3 +47,8 @@ numbered refusals.Hold = omega arith
 numbered refusals.Balises = omega arith
 numbered refusals.Placing = omega arith
 numbered refusals.NoPath = omega arith
+
+-- a call that no rule refuses is accepted
+pub accepted : {A : Type 0} (r : Result A Refusal) → refused_by r ≡ 0 → IsOk r
+accepted (Ok x) z = search rules
+accepted (Err r) z = absurd (numbered r z)
