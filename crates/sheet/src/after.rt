@@ -1,24 +1,16 @@
 // The free times after an addition.
-ghost use Rattle.std.specs.Prelude.{◌≡◌, ℕ, ◌+◌, ◌*◌, ◌^◌, ◌≤◌, ◌<◌};
-ghost use Rattle.rules.specs.Count.{entry, set_below};
+ghost use Rattle.std.specs.Prelude.{◌≡◌, ℕ, ◌+◌, ◌*◌, ◌^◌, ◌≤◌, ◌<◌, length};
+ghost use Rattle.rules.specs.Count.{entry};
 
-// When a block is free again after a train with this start.
-fn free_again(start: u64, end: u64) -> u64
-    requires { (start ≤ 64 * 2 ^ 44) × (end ≤ 2 ^ 44) }
-    ensures { result ≡ start + end }
+// Each block's free time becomes start plus end.
+pub(crate) fn release(free: &mut [u64], ends: &[u64], start: u64)
+    requires of_both { length free.old ≡ length ends.now }
+    requires start_bound { start ≤ 64 * 2 ^ 44 }
+    requires ends_bound { (b : ℕ) → b < length ends.now → entry ends.now b ≤ 2 ^ 44 }
+    ensures { (b : ℕ) → b < length free.old → entry free.new b ≡ start + entry ends.now b }
 {
-    start + end
-}
-
-// The free times of the first blocks become start plus end.
-pub(crate) fn release<'a>(blocks: usize, free: &'a mut [u64; 32], ends: &'a [u64; 32], start: u64)
-    requires blocks_bound { (blocks ≤ 32) × (start ≤ 64 * 2 ^ 44) }
-    requires by_index { (b : ℕ) → b < blocks → entry ends.now b ≤ 2 ^ 44 }
-    ensures { free.new ≡ set_below blocks (λ b. start + entry ends.now b) free.old }
-{
-    let mut b = 0;
-    while b < blocks {
-        free[b] = free_again(start, ends[b]);
-        b += 1;
+    // By the index: of a zip over `iter_mut` a proof knows no entry.
+    for (b, free) in free.iter_mut().enumerate() {
+        *free = start + ends[b];
     }
 }

@@ -1,15 +1,15 @@
 -- `headway`: the opening, then each addition's answer by its case.
-use Prim.Native.Nat.{ℕ}
-use mathlib.Core.Path.{◌≡◌, ap}
+use Rattle.std.proofs.Common.{◌≡◌, ◌≢◌, ℕ, refl}
 use borrow.Author.Tests.{eq-eqb, ne_eqb}
 use Rattle.rules.specs.Calls.{Opening, Addition, accepted, refused, headway_of, no_headway, opened, added, headway}
 use Rattle.rules.specs.Hold.{Hold}
-use Rattle.sheet.specs.Values.{as_answer}
+use Rattle.refusals.proofs.Passing.{numbered}
+use Rattle.sheet.proofs.Refused.{passed_as}
 use Rattle.sheet.proofs.headway.Goals as goal
 
 -- the first refusal met, and the second train's start
 module _ (first second : Hold) {opening : Opening} (e : opening ≡ opened first.blocks) where
-  not_opened : (opening.number ≡ 0 → ⊥) → no_headway opening.number ≡ headway first second
+  not_opened : opening.number ≢ 0 → no_headway opening.number ≡ headway first second
   unfolding headway
   not_opened h = rw (← e, ne_eqb opening.number 0 h)
 
@@ -27,20 +27,16 @@ module _ (first second : Hold) {opening : Opening} (e : opening ≡ opened first
       unfolding headway
       second_start k = rw (← e, eq-eqb opening.number 0 z, ← f, g, ← h, k)
 
-pub returns-then-opening-ne0 : goal.returns-then-opening-ne0
-returns-then-opening-ne0 c = not_opened _ _ c.open_sheet-opening.ensures.sheet c.if-opening-ne0.true
+pub returns-in_err-sheet : goal.returns-in_err-sheet
+returns-in_err-sheet c = rw (passed_as _ _ c.from_residual.ensures.1) (not_opened _ _ c.in_err-sheet.ensures.sheet (numbered _))
 
-pub returns-in_default : goal.returns-in_default
-returns-in_default c = let told = c.in_default.is in
-    rw (c.refusal_number.ensures, told)
-    (first-refused _ _ c.open_sheet-opening.ensures.sheet c.if-opening-ne0.false c.with_hold-one.ensures (ap as_answer told))
+pub returns-in_err-add : goal.returns-in_err-add
+returns-in_err-add c = rw (passed_as _ _ c.from_residual-in_err-add.ensures.1) (first-refused _ _ c.in_ok-sheet.ensures.sheet refl c.in_err-add.ensures refl)
 
-pub returns-in_default-later : goal.returns-in_default-later
-returns-in_default-later c = let told = c.in_default-later.is in
-    rw (c.refusal_number-in_default-later.ensures, told)
-    (second_refused _ _ c.open_sheet-opening.ensures.sheet c.if-opening-ne0.false c.with_hold-one.ensures
-    (ap as_answer c.in-Accepted.is) c.with_hold-two.ensures (ap as_answer told))
+pub returns-in_err-later : goal.returns-in_err-later
+returns-in_err-later c =
+    rw (passed_as _ _ c.from_residual-in_err-later.ensures.1)
+    (second_refused _ _ c.in_ok-sheet.ensures.sheet refl c.in_ok-add.ensures refl c.in_err-later.ensures refl)
 
 pub returns : goal.returns
-returns c = second_start _ _ c.open_sheet-opening.ensures.sheet c.if-opening-ne0.false c.with_hold-one.ensures
-    (ap as_answer c.in-Accepted.is) c.with_hold-two.ensures (ap as_answer c.in-Accepted-later.is)
+returns c = second_start _ _ c.in_ok-sheet.ensures.sheet refl c.in_ok-add.ensures refl c.in_ok-later.ensures refl

@@ -1,19 +1,23 @@
 -- `open_sheet`. That an opened sheet meets the third demand is the law `opened_demand`.
-use mathlib.Core.Path.{ap}
-use borrow.Author.Rules.{rules}
+use Rattle.std.proofs.Common.{◌∙◌, sym, ap}
+use Rattle.rules.specs.Calls.{Opening, opened}
 use Rattle.rules.specs.Demand.{ThirdDemand}
-use Rattle.rules.specs.Calls.{opened}
 use Rattle.rules.proofs.Demand.{opened-fresh, opened-refused, opened_demand}
-use Rattle.rules.proofs.Loops.{passed, failed}
-use mathlib.Core.Bool.{not}
+use Rattle.refusals.proofs.Passing.{refuses, passes}
+use Rattle.sheet.proofs.Refused.{passed_as}
 use Rattle.sheet.proofs.open_sheet.Goals as goal
 
-pub returns-then-not-count_kept : goal.returns-then-not-count_kept
-returns-then-not-count_kept c = let e = opened-refused c.args.blocks (failed c.count_kept.ensures (ap not c.if-not-count_kept.true)) in
-    record { sheet = rw (e, c.fresh.ensures); demand = λ z. absurd (search rules) }
+pub returns-in_err-unless-clause-sheet : goal.returns-in_err-unless-clause-sheet
+returns-in_err-unless-clause-sheet c =
+    let (broken, own) = refuses _ _ _ c.in_err-unless.ensures in
+    rw (passed_as _ _ c.from_residual.ensures.1, own, opened-refused c.args.blocks (sym c.count_kept.ensures ∙ broken))
 
-pub returns : goal.returns
-returns c = let blocks = c.args.blocks in
-    let e = opened-fresh blocks (passed c.count_kept.ensures (ap not c.if-not-count_kept.false)) in
-    let d : ThirdDemand blocks (opened blocks).sheet = opened_demand blocks (ap (λ r. r.number) e) in
-    record { sheet = rw (e, c.fresh-2.ensures); demand = λ z. rw c.fresh-2.ensures (rw e at d) }
+pub returns-clause-sheet : goal.returns-clause-sheet
+returns-clause-sheet c = rw (c.fresh.ensures, opened-fresh c.args.blocks (sym c.count_kept.ensures ∙ passes _ _ c.in_ok-unless.ensures))
+
+pub returns-clause-demand : goal.returns-clause-demand
+returns-clause-demand c =
+    let blocks = c.args.blocks in
+    let e = opened-fresh blocks (sym c.count_kept.ensures ∙ passes _ _ c.in_ok-unless.ensures) in
+    let d : ThirdDemand blocks (opened blocks).sheet = opened_demand blocks (ap (λ (r : Opening). r.number) e) in
+    rw c.fresh.ensures (rw e at d)

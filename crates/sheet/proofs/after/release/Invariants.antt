@@ -1,11 +1,7 @@
--- `release`: at the loop's test the first b blocks have their new free times.
-use Prim.Native.Nat.{◌+◌, ◌-◌, ◌≤◌}
-use mathlib.Core.Path.{◌≡◌}
-use Rattle.rules.specs.Count.{entry, set_below}
+-- `release`: the blocks before this one have their new free times.
+use Rattle.std.proofs.Common.{◌≡◌, ℕ, ◌+◌, ◌<◌}
+use Rattle.rules.specs.Count.{entry}
 use Rattle.sheet.proofs.after.release.Given as goal
 
 abbrev pub invariant-loop-b : goal.invariant-loop-b
-invariant-loop-b l = (l.b ≤ l.blocks) × (l.free ≡ set_below l.b (λ k. l.start + entry l.ends k) l.initial.free)
-
-abbrev pub decreases-loop-b : goal.decreases-loop-b
-decreases-loop-b l = l.blocks - l.b
+invariant-loop-b l = (k : ℕ) → k < l.b → entry l.free k ≡ l.start + entry l.ends k
