@@ -1,5 +1,5 @@
 -- What a `?` passes on, and what a rule that is tested by it says. Assumes nothing.
-use Rattle.std.specs.Prelude.{◌≢◌, ◌≡◌, Bool, true, false, Result, Ok, Err}
+use Rattle.std.specs.Prelude.{◌≢◌, ◌≡◌, ◌≤◌, Bool, true, false, Result, Ok, Err}
 use Rattle.std.proofs.Common.{arith, refl, rules}
 use Rattle.std.specs.Result.{IsErrAnd, IsOk}
 use Rattle.refusals.specs.declared.Refusal.{Refusal}
@@ -52,3 +52,23 @@ numbered refusals.NoPath = omega arith
 pub accepted : {A : Type 0} (r : Result A Refusal) → refused_by r ≡ 0 → IsOk r
 accepted (Ok x) z = search rules
 accepted (Err r) z = absurd (numbered r z)
+
+-- the greatest number of refusal is 17
+pub most : (r : Refusal) → number r ≤ 17
+most refusals.FileTooShort = omega arith
+most refusals.FileTooLong = omega arith
+most refusals.Sizes = omega arith
+most refusals.LimitPoints = omega arith
+most refusals.Limits = omega arith
+most refusals.Blocks = omega arith
+most refusals.Bands = omega arith
+most refusals.Stops = omega arith
+most refusals.LastBlock = omega arith
+most refusals.NoSuchTrain = omega arith
+most refusals.TooLittleRoom = omega arith
+most refusals.Sheet = omega arith
+most refusals.SheetFull = omega arith
+most refusals.Hold = omega arith
+most refusals.Balises = omega arith
+most refusals.Placing = omega arith
+most refusals.NoPath = omega arith
