@@ -6,6 +6,6 @@ mod numbers;
 mod on_line;
 mod train_rules;
 
-pub use line_rules::{line_refusal, line_sizes};
-pub use on_line::refusal_on;
-pub use train_rules::{TrainKept, both_keep, first_of_trains, train_kept, train_sizes};
+pub use line_rules::{check_line, line_sizes};
+pub use on_line::check_on;
+pub use train_rules::{TrainKept, train_kept, train_sizes};

@@ -1,7 +1,11 @@
-use Rattle.rules.specs.Refusal.{limits_rule}
-use Rattle.rules.proofs.Loops.{within-row}
+use mathlib.Core.Path.{◌≡◌, sym, ◌∙◌}
+use native.Mathlib.Omega.{arith}
+use borrow.Author.Rules.{rules}
+use lib.ListN.{length}
+use Rattle.judging.proofs.Rules.{limits_used}
 use Rattle.judging.proofs.line_rules.limits_kept.Goals as goal
 
 pub returns : goal.returns
-unfolding limits_rule
-returns c = rw within-row c.all_within.ensures
+returns c = let l = c.args.line in
+    let places : length l.limits ≡ 64 = search rules in
+    c.all_within.ensures ∙ sym (limits_used l (omega arith))

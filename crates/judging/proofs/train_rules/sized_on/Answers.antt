@@ -1,7 +1,12 @@
-use Rattle.rules.proofs.Loops.{and_of}
-use Rattle.judging.proofs.Rules.{train_sizes_of}
+use native.Mathlib.Omega.{arith}
+use Rattle.rules.specs.Count.{◌and◌}
+use Rattle.judging.proofs.Rules.{train-numbers}
 use Rattle.judging.proofs.train_rules.sized_on.Goals as goal
 
-pub returns : goal.returns
-returns c = and_of c.both.ensures c.line_sized.ensures
-    (train_sizes_of c.args.train c.size-class.ensures.0 c.size-length.ensures.0 c.train_sizes.ensures)
+pub returns-then-line_sized : goal.returns-then-line_sized
+unfolding ◌and◌
+returns-then-line_sized c = rw (train-numbers, ← c.from.ensures, ← c.from-then-line_sized.ensures) (grind arith)
+
+pub returns-else-line_sized : goal.returns-else-line_sized
+unfolding ◌and◌
+returns-else-line_sized c = grind arith

@@ -1,8 +1,11 @@
-use Rattle.rules.proofs.Loops.{and_of}
+use native.Mathlib.Omega.{arith}
+use Rattle.rules.specs.Count.{◌and◌}
 use Rattle.judging.proofs.train_rules.train_sizes.Goals as goal
 
-pub returns : goal.returns
-returns c = and_of c.both-2.ensures c.is_within-3.ensures
-    (and_of c.both.ensures c.is_within-4.ensures
-    (and_of c.both-counts.ensures c.is_within.ensures
-    c.is_within-2.ensures))
+pub returns-then-is_within-3 : goal.returns-then-is_within-3
+unfolding ◌and◌
+returns-then-is_within-3 c = grind arith
+
+pub returns-else-is_within-3 : goal.returns-else-is_within-3
+unfolding ◌and◌
+returns-else-is_within-3 c = grind arith
