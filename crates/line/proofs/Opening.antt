@@ -1,4 +1,4 @@
--- What opening a file answers, accepted and refused, and what it tells its callers. Assumes nothing.
+-- What an accepted file, and a train of it, are as the rules have them, and the part handed out. Assumes nothing.
 use Prim.Native.Nat.{ℕ, ◌+◌, ◌≤◌, ◌<◌}
 use mathlib.Core.Bool.{Bool, true, false}
 use mathlib.Core.List.{List}
@@ -7,62 +7,26 @@ use native.Mathlib.Omega.{arith}
 use lib.Dec.{eqb}
 use lib.ListN.{length, take, drop}
 use borrow.Author.Tests.{eq-eqb, ne_eqb, eqb-true}
+use Rattle.std.specs.Prelude.{Result, Ok, Err}
+use Rattle.std.specs.Result.{IsErrAnd}
+use Rattle.refusals.specs.declared.Refusal.{Refusal}
+use Rattle.refusals.specs.Number.{number}
+use Rattle.refusals.proofs.Passing.{numbered}
 use Rattle.rules.specs.Calls.{file_refusal, train_refusal, train_record, RecordPlace, record_place}
-use Rattle.rules.specs.File.{train_count, trains_at, record_at, record_size, record_end}
+use Rattle.rules.specs.File.{train_count, record_at, record_size, record_end}
 use Rattle.rules.specs.Line.{line_of, train_of}
 use Rattle.rules.specs.Refusal.{train_sizes}
 use Rattle.rules.proofs.Accepted.{train-accepted, file_there, sizes_kept}
 use Rattle.rules.proofs.Calls.{place_handed}
 use Rattle.rules.proofs.Count.{and_left, and_right, every-at}
 use Rattle.rules.proofs.File.{part_from, part_is, part_end, record_within}
-use Rattle.values.specs.declared.decoded.Line.{Line}
 use Rattle.values.specs.declared.decoded.Train.{Train}
-use Rattle.values.specs.Values.{as_line, as_train, no_line, no_train}
+use Rattle.values.specs.Values.{as_line, as_train}
 use Rattle.reading.specs.Decoded.{decoded_line, decoded_train}
-use Rattle.line.specs.declared.find.Found.{Found}
-use Rattle.line.specs.declared.opened.FileAnswer.{FileAnswer}
-use Rattle.line.specs.declared.opened.TrainAnswer.{TrainAnswer}
-use Rattle.line.specs.Answers.{refused_file, opened_file, opened_train, refused_for, found_for}
+use Rattle.line.specs.declared.opened.OpenedTrain.{OpenedTrain}
+use Rattle.line.specs.declared.RecordPlace as line_records
+use Rattle.line.specs.Answers.{as_record_place, opened_train}
 use Rattle.line.proofs.Judging.{line_decoded, train_decoded}
-
--- ---- a file
-
-module _ (file : List ℕ) where
-  pub file_refused : {r : FileAnswer} {n : ℕ} → r ≡ refused_file n → n ≡ file_refusal file → (n ≡ 0 → ⊥) → r ≡ opened_file file
-  unfolding opened_file
-  file_refused e f h = e ∙ rw (ne_eqb (file_refusal file) 0 (λ z. h (f ∙ z)), f)
-
-  pub file_opened :
-      {t a : ℕ} {l : Line} → file_refusal file ≡ 0 → t ≡ train_count file → a ≡ trains_at file → l ≡ decoded_line file →
-      ◌≡◌ {A = FileAnswer} (record { number = 0; trains = t; at = a; line = l }) (opened_file file)
-  unfolding opened_file
-  file_opened z e f g = rw (eq-eqb (file_refusal file) 0 z, e, f, g)
-
-  module _ {o : FileAnswer} (e : o ≡ opened_file file) where
-    pub file_number : o.number ≡ file_refusal file
-    unfolding opened_file
-    file_number = ap (λ (o : FileAnswer). o.number) e ∙ go (eqb (file_refusal file) 0) refl
-      where
-        go : (b : Bool) → eqb (file_refusal file) 0 ≡ b → (opened_file file).number ≡ file_refusal file
-        go true q = rw q (sym (eqb-true (file_refusal file) 0 q))
-        go false q = rw q
-
-    module _ (z : o.number ≡ 0) where
-      pub file_accepted : file_refusal file ≡ 0
-      file_accepted = sym file_number ∙ z
-
-      whole : o ≡ record { number = 0; trains = train_count file; at = trains_at file; line = decoded_line file }
-      unfolding opened_file
-      whole = e ∙ rw (eq-eqb (file_refusal file) 0 file_accepted)
-
-      pub file_trains : o.trains ≡ train_count file
-      file_trains = ap (λ (o : FileAnswer). o.trains) whole
-
-      pub file_place : o.at ≡ trains_at file
-      file_place = ap (λ (o : FileAnswer). o.at) whole
-
-      pub file_line : o.line ≡ decoded_line file
-      file_line = ap (λ (o : FileAnswer). o.line) whole
 
 -- the line of an accepted file stands for the rules' line, and so does each train
 module _ (file : List ℕ) (ok : file_refusal file ≡ 0) where
@@ -73,97 +37,42 @@ module _ (file : List ℕ) (ok : file_refusal file ≡ 0) where
   train_stands k h =
       train_decoded file (record_at file k) (every-at (λ k. train_sizes (train_of file k)) (train_count file) (and_right _ _ (sizes_kept file ok)) k h)
 
--- ---- a train
-
 module _ (file : List ℕ) (k : ℕ) where
-  pub not_found : {r : Found} {n : ℕ} → r ≡ refused_for n → n ≡ train_refusal file k → (n ≡ 0 → ⊥) → r ≡ found_for file k
-  unfolding found_for
-  not_found e f h = e ∙ rw (ne_eqb (train_refusal file k) 0 (λ z. h (f ∙ z)), f)
+  -- ---- a train that the file has
 
-  pub found_there :
-      {l : Line} {a : ℕ} → train_refusal file k ≡ 0 → l ≡ decoded_line file → a ≡ record_at file k →
-      ◌≡◌ {A = Found} (record { number = 0; line = l; at = a }) (found_for file k)
-  unfolding found_for
-  found_there z e f = rw (eq-eqb (train_refusal file k) 0 z, e, f)
-
-  module _ {o : Found} (e : o ≡ found_for file k) where
-    pub found_number : o.number ≡ train_refusal file k
-    unfolding found_for
-    found_number = ap (λ (o : Found). o.number) e ∙ go (eqb (train_refusal file k) 0) refl
-      where
-        go : (b : Bool) → eqb (train_refusal file k) 0 ≡ b → (found_for file k).number ≡ train_refusal file k
-        go true q = rw q (sym (eqb-true (train_refusal file k) 0 q))
-        go false q = rw q
-
-    pub train_not_opened : (o.number ≡ 0 → ⊥) → ◌≡◌ {A = TrainAnswer} (record { number = o.number; line = no_line; train = no_train }) (opened_train file k)
-    unfolding opened_train
-    train_not_opened h = rw (found_number, ne_eqb (train_refusal file k) 0 (λ z. h (found_number ∙ z)))
-
-    pub place-refused : (o.number ≡ 0 → ⊥) → ◌≡◌ {A = RecordPlace} (record { number = o.number; start = 0; length = 0 }) (record_place file k)
+  module _ (ok : train_refusal file k ≡ 0) where
+    pub place_found :
+        {start size : ℕ} → start ≡ record_at file k → size ≡ record_size (part_from file start) 0 →
+        ◌≡◌ {A = RecordPlace} (record { number = 0; start = start; length = size }) (record_place file k)
     unfolding record_place
-    place-refused h = rw (found_number, ne_eqb (train_refusal file k) 0 (λ z. h (found_number ∙ z)))
+    place_found {start} {size} e f =
+        let here : size ≡ record_size file (record_at file k) = omega (arith, e, part_end file k start e f, ap (record_end file) e) in
+        rw (eq-eqb (train_refusal file k) 0 ok, e, here)
 
-    module _ (z : o.number ≡ 0) where
-      accepted : train_refusal file k ≡ 0
-      accepted = sym found_number ∙ z
-
-      whole_found : o ≡ record { number = 0; line = decoded_line file; at = record_at file k }
-      unfolding found_for
-      whole_found = e ∙ rw (eq-eqb (train_refusal file k) 0 accepted)
-
-      place : o.at ≡ record_at file k
-      place = ap (λ (o : Found). o.at) whole_found
-
-      -- the record is on the file
-      pub place-within : o.at ≤ length file
-      place-within =
-          let (ok, there) = train-accepted file k accepted in
-          omega (arith, place, record_within file k there, file_there file ok)
-
-      pub train-opened :
-          {t : Train} → t ≡ decoded_train (part_from file o.at) →
-          ◌≡◌ {A = TrainAnswer} (record { number = 0; line = o.line; train = t }) (opened_train file k)
-      unfolding opened_train
-      train-opened f =
-          let line = ap (λ (o : Found). o.line) whole_found in
-          let train = f ∙ ap decoded_train (part_is file o.at ∙ ap (λ (n : ℕ). drop n file) place) in
-          rw (eq-eqb (train_refusal file k) 0 accepted, line, train)
-
-      pub place_found : {n : ℕ} → n ≡ record_size (part_from file o.at) 0 →
-          ◌≡◌ {A = RecordPlace} (record { number = 0; start = o.at; length = n }) (record_place file k)
-      unfolding record_place
-      place_found {n} f =
-          let size : n ≡ record_size file (record_at file k) =
-          omega (arith, place, part_end file k o.at place f, ap (record_end file) place) in
-          rw (eq-eqb (train_refusal file k) 0 accepted, place, size)
-
-  -- what opening tells its callers
-  module _ {o : TrainAnswer} (e : o ≡ opened_train file k) where
-    pub train-number : o.number ≡ train_refusal file k
-    unfolding opened_train
-    train-number = ap (λ (o : TrainAnswer). o.number) e ∙ go (eqb (train_refusal file k) 0) refl
-      where
-        go : (b : Bool) → eqb (train_refusal file k) 0 ≡ b → (opened_train file k).number ≡ train_refusal file k
-        go true q = rw q (sym (eqb-true (train_refusal file k) 0 q))
-        go false q = rw q
-
-    module _ (z : o.number ≡ 0) where
-      pub train_asked : train_refusal file k ≡ 0
-      train_asked = sym train-number ∙ z
-
-      whole-train : o ≡ record { number = 0; line = decoded_line file; train = decoded_train (drop (record_at file k) file) }
-      unfolding opened_train
-      whole-train = e ∙ rw (eq-eqb (train_refusal file k) 0 train_asked)
-
+    -- what opening tells its callers
+    module _ {o : OpenedTrain} (e : o ≡ opened_train file k) where
       pub opened_line : as_line o.line ≡ line_of file
-      opened_line = ap (λ (o : TrainAnswer). as_line o.line) whole-train ∙ line_stands file (train-accepted file k train_asked).0
+      opened_line = ap (λ (o : OpenedTrain). as_line o.line) e ∙ line_stands file (train-accepted file k ok).0
 
       pub opened-train : as_train o.train ≡ train_of file k
       opened-train =
-          let (ok, there) = train-accepted file k train_asked in
-          ap (λ (o : TrainAnswer). as_train o.train) whole-train ∙ train_stands file ok k there
+          let (accepted, there) = train-accepted file k ok in
+          ap (λ (o : OpenedTrain). as_train o.train) e ∙ train_stands file accepted k there
 
-  -- the part that is handed out
+  -- as the code has it of the record at `at`
+  pub train_read : {at : ℕ} {train : Train} → at ≡ record_at file k → train ≡ decoded_train (part_from file at) → train ≡
+      decoded_train (drop (record_at file k) file)
+  train_read {at} e f = f ∙ ap decoded_train (part_is file at ∙ ap (λ (n : ℕ). drop n file) e)
+
+  -- ---- the part that is handed out, and none on a refusal
+
+  pub place_refused :
+      (r : Result line_records.RecordPlace Refusal) (e : Refusal) → IsErrAnd r (λ x. x ≡ e) → number e ≡ train_refusal file k →
+      as_record_place r ≡ record_place file k
+  unfolding record_place
+  place_refused (Ok p) e i h = absurd i
+  place_refused (Err x) e i h = rw (i, h, ne_eqb (train_refusal file k) 0 (λ z. numbered e (h ∙ z)))
+
   module _ {p : RecordPlace} (e : p ≡ record_place file k) where
     pub part_handed : take p.length (drop p.start file) ≡ train_record file k
     part_handed = rw e (sym (place_handed file k))

@@ -1,17 +1,18 @@
 // The record of the train asked for.
-ghost use Rattle.std.specs.Prelude.{◌≡◌, ◌<◌};
-ghost use Rattle.rules.specs.Calls.{file_refusal};
+ghost use Rattle.std.specs.Prelude.{◌≡◌, ◌<◌, ◌≤◌, length, IfOk};
+ghost use Rattle.refusals.specs.Number.{refused_by};
+ghost use Rattle.rules.specs.Calls.{file_refusal, train_refusal};
 ghost use Rattle.rules.specs.File.{train_count, trains_at, record_at};
-ghost use Rattle.line.specs.Answers.{found_for, refused_for};
+ghost use Rattle.line.specs.Answers.{found_for};
 
 use crate::opened::open_file;
 use reading::record_size;
+use refusals::Refusal;
 use values::Line;
 
-// The number 0, the line and the place of the record; or the number of refusal and zeros.
+// The line, and the place of the record.
 #[derive(Clone, Copy)]
 pub(crate) struct Found {
-    pub number: u64,
     pub line: Line,
     pub at: usize,
 }
@@ -19,42 +20,24 @@ pub(crate) struct Found {
 // The place of train record k, where the first stands at `first`.
 fn record_at(file: &[u8], first: usize, k: u64) -> usize
     requires { (file_refusal file.now ≡ 0) × (k < train_count file.now) × (first ≡ trains_at file.now) }
-    ensures { result ≡ record_at file.now k }
+    ensures { (result ≡ record_at file.now k) × (result ≤ length file.now) }
 {
     let mut at = first;
-    let mut i = 0;
-    while i < k {
+    for _ in 0..k {
         at += record_size(&file[at..]);
-        i += 1;
     }
     at
 }
 
-fn not_there(number: u64) -> Found
-    ensures { result ≡ refused_for number }
-{
-    Found {
-        number,
-        line: Line::NONE,
-        at: 0,
-    }
-}
-
 // The file's rules and 10.
-pub(crate) fn find_train(file: &[u8], k: u64) -> Found
-    ensures { result ≡ found_for file.now k }
+pub(crate) fn find_train(file: &[u8], k: u64) -> Result<Found, Refusal>
+    ensures refusal { refused_by result ≡ train_refusal file.now k }
+    ensures found { IfOk result (λ found. found ≡ found_for file.now k) }
+    ensures within { IfOk result (λ found. found.at ≤ length file.now) }
 {
-    let opened = open_file(file);
-    if opened.number != 0 {
-        return not_there(opened.number);
-    }
-    if opened.trains as u64 <= k {
-        return not_there(10);
-    }
+    let opened = open_file(file)?;
+    Refusal::NoSuchTrain.unless(k < opened.trains as u64)?;
     let line = opened.line;
-    Found {
-        number: 0,
-        line,
-        at: record_at(file, opened.at, k),
-    }
+    let at = record_at(file, opened.at, k);
+    Ok(Found { line, at })
 }

@@ -1,15 +1,12 @@
-use native.Mathlib.Omega.{arith}
-use Rattle.line.proofs.Opening.{place-refused, place-within, place_found}
+use mathlib.Core.Path.{sym, ap}
+use Rattle.line.specs.declared.find.Found.{Found}
+use Rattle.line.proofs.Opening.{place_refused, place_found}
 use Rattle.line.proofs.record_place.Goals as goal
 
-pub returns-then-found-ne0 : goal.returns-then-found-ne0
-returns-then-found-ne0 c = place-refused _ _ c.find_train-found.ensures c.if-found-ne0.true
-
-pub slice_bounds-record_size-count : goal.slice_bounds-record_size-count
-slice_bounds-record_size-count c = omega (arith, place-within _ _ c.find_train-found.ensures c.if-found-ne0.false)
-
-pub slice_bounds-record_size-start : goal.slice_bounds-record_size-start
-slice_bounds-record_size-start c = omega (arith, place-within _ _ c.find_train-found.ensures c.if-found-ne0.false)
+pub returns-in_err-start : goal.returns-in_err-start
+returns-in_err-start c = place_refused _ _ _ _ c.from_residual.ensures.1 c.in_err-start.ensures.refusal
 
 pub returns : goal.returns
-returns c = place_found _ _ c.find_train-found.ensures c.if-found-ne0.false c.record_size.ensures.0
+returns c =
+    let place = ap (λ (f : Found). f.at) c.in_ok-start.ensures.found in
+    place_found _ _ (sym c.in_ok-start.ensures.refusal) place c.record_size-length.ensures.0

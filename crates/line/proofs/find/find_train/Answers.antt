@@ -1,25 +1,38 @@
+use mathlib.Core.Path.{sym, ap, ◌∙◌}
 use native.Mathlib.Omega.{arith}
-use mathlib.Core.Path.{sym, ◌∙◌}
+use borrow.Author.Tests.{ltb-true, ltb-false}
 use Rattle.rules.proofs.Accepted.{train-refused, train_missing, train-there}
-use Rattle.line.proofs.Opening.{file_number, file_accepted, file_trains, file_place, file_line, not_found, found_there}
+use Rattle.refusals.proofs.Passing.{passed_on, refuses, passes, numbered}
+use Rattle.reading.specs.declared.decode.DecodedFile.{DecodedFile}
 use Rattle.line.proofs.find.find_train.Goals as goal
 
-pub returns-then-opened-ne0 : goal.returns-then-opened-ne0
-returns-then-opened-ne0 c = let number = file_number _ c.open_file-opened.ensures in
-    not_found _ _ c.not_there.ensures (number ∙ sym (train-refused _ _ (λ z. c.if-opened-ne0.true (number ∙ z)))) c.if-opened-ne0.true
+pub returns-in_err-opened-clause-refusal : goal.returns-in_err-opened-clause-refusal
+returns-in_err-opened-clause-refusal c =
+    let file = c.in_err-opened.ensures.refusal in
+    passed_on _ _ c.from_residual.ensures.1 ∙ file ∙ sym (train-refused _ _ (λ z. numbered _ (file ∙ z)))
 
-pub returns-then-opened-k : goal.returns-then-opened-k
-returns-then-opened-k c = let e = c.open_file-opened.ensures in
-    let z = c.if-opened-ne0.false in
-    not_found _ _ c.not_there-then-opened-k.ensures (sym (train_missing _ _ (file_accepted _ e z) (omega (arith, file_trains _ e z, c.if-opened-k.true))))
-    (λ w. omega arith)
+pub returns-in_err-unless-clause-refusal : goal.returns-in_err-unless-clause-refusal
+returns-in_err-unless-clause-refusal c =
+    let (broken, own) = refuses _ _ _ c.in_err-unless.ensures in
+    let trains = ap (λ (d : DecodedFile). d.trains) c.in_ok-opened.ensures.opened in
+    let missing = train_missing _ _ (sym c.in_ok-opened.ensures.refusal) (omega (arith, trains, ltb-false _ _ broken)) in
+    passed_on _ _ c.from_residual-in_err-unless.ensures.1 ∙ own ∙ sym missing
 
-pub record_at-requires : goal.record_at-requires
-record_at-requires c = let e = c.open_file-opened.ensures in
-    let z = c.if-opened-ne0.false in
-    (file_accepted _ e z, omega (arith, file_trains _ e z, c.if-opened-k.false), file_place _ e z)
+pub record_at-at-requires : goal.record_at-at-requires
+record_at-at-requires c =
+    let e = c.in_ok-opened.ensures.opened in
+    let trains = ap (λ (d : DecodedFile). d.trains) e in
+    let there = ltb-true _ _ (passes _ _ c.in_ok-unless.ensures) in
+    (sym c.in_ok-opened.ensures.refusal, omega (arith, trains, there), ap (λ (d : DecodedFile). d.at) e)
 
 pub returns : goal.returns
-returns c = let e = c.open_file-opened.ensures in
-    let z = c.if-opened-ne0.false in
-    found_there _ _ (train-there _ _ (file_accepted _ e z) (omega (arith, file_trains _ e z, c.if-opened-k.false))) (file_line _ e z) c.record_at.ensures
+returns c =
+    let e = c.in_ok-opened.ensures.opened in
+    let trains = ap (λ (d : DecodedFile). d.trains) e in
+    let line = ap (λ (d : DecodedFile). d.line) e in
+    let there = ltb-true _ _ (passes _ _ c.in_ok-unless.ensures) in
+    record {
+      refusal = sym (train-there _ _ (sym c.in_ok-opened.ensures.refusal) (omega (arith, trains, there)));
+      found = rw (line, c.record_at-at.ensures.0);
+      within = c.record_at-at.ensures.1;
+    }

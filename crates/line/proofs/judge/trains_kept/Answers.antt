@@ -8,27 +8,26 @@ use Rattle.line.specs.Judged.{kept_of}
 use Rattle.line.proofs.Judging.{kept-none, kept_more, kept_here}
 use Rattle.line.proofs.judge.trains_kept.Goals as goal
 
-pub loop-k-init : goal.loop-k-init
-loop-k-init c = let f = c.args.file.now in
+pub loop-init : goal.loop-init
+loop-init c = let f = c.args.file.now in
     let first = ap (λ (d : DecodedFile). d.at) c.requires.1 in
-    (omega arith, first ∙ sym (record_first f), omega (arith, first, trains-within f, c.requires.0), kept-none _)
+    (first ∙ sym (record_first f), omega (arith, first, trains-within f, c.requires.0), kept-none _)
 
-pub loop-k-preserved : goal.loop-k-preserved
-loop-k-preserved c =
-    let on_file : c.loop-k.k < train_count c.args.file.now = (omega (arith, ap (λ (d : DecodedFile). d.trains) c.requires.1, c.loop-k-test.true)) in
-    let o = c.loop-k in
+pub loop-preserved : goal.loop-preserved
+loop-preserved c =
+    let on_file : c.loop.counter < train_count c.args.file.now = (omega (arith, ap (λ (d : DecodedFile). d.trains) c.requires.1, c.loop-test.true)) in
+    let o = c.loop in
     let f = c.args.file.now in
     let line = ap (λ (d : DecodedFile). d.line) c.requires.1 in
-    let here = kept_here f o.k o.at o.invariant.1 line c.decode_train-train.ensures c.train_kept.ensures in
+    let here = kept_here f o.counter o.at o.invariant.0 line c.decode_train.ensures c.train_kept.ensures in
     let size = c.record_size-at.ensures.0 in (
-      omega arith,
-      part_next f o.k o.at o.invariant.1 size,
-      omega (arith, part_inside f o.k o.at o.invariant.1 size on_file, c.requires.0),
-      kept_more (kept_of f) o.k o.invariant.3 here c.both_keep-kept.ensures,
+      part_next f o.counter o.at o.invariant.0 size,
+      omega (arith, part_inside f o.counter o.at o.invariant.0 size on_file, c.requires.0),
+      kept_more (kept_of f) o.counter o.invariant.2 here c.and-kept.ensures,
     )
 
 pub returns : goal.returns
-returns c = let o = c.loop-k in
+returns c = let o = c.loop in
     let count = ap (λ (d : DecodedFile). d.trains) c.requires.1 in
-    let e : o.k ≡ train_count c.args.file.now = omega (arith, count, c.loop-k-test.false) in
-    rw e at o.invariant.3
+    let e : o.counter ≡ train_count c.args.file.now = omega (arith, count, c.loop-test.false) in
+    rw e at o.invariant.2

@@ -1,20 +1,12 @@
-use mathlib.Core.Path.{sym, ap, ◌∙◌}
+use mathlib.Core.Path.{sym, ◌∙◌}
 use Rattle.rules.proofs.Accepted.{file_cut}
-use Rattle.reading.specs.declared.decode.DecodedFile.{DecodedFile}
-use Rattle.line.proofs.Opening.{file_refused, file_opened}
+use Rattle.refusals.proofs.Passing.{passed_on, numbered}
 use Rattle.line.proofs.opened.open_file.Goals as goal
 
-pub returns-then-cut-ne0 : goal.returns-then-cut-ne0
-returns-then-cut-ne0 c = let cut = c.length_refusal-cut.ensures in
-    file_refused _ c.refused_file.ensures (cut ∙ sym (file_cut _ (λ z. c.if-cut-ne0.true (cut ∙ z)))) c.if-cut-ne0.true
+pub returns-in_err-check_length-clause-refusal : goal.returns-in_err-check_length-clause-refusal
+returns-in_err-check_length-clause-refusal c =
+    let cut = c.in_err-check_length.ensures in
+    passed_on _ _ c.from_residual.ensures.1 ∙ cut ∙ sym (file_cut _ (λ z. numbered _ (cut ∙ z)))
 
-pub judge-number-requires : goal.judge-number-requires
-judge-number-requires c = (sym c.length_refusal-cut.ensures ∙ c.if-cut-ne0.false, c.decode_file-decoded.ensures)
-
-pub returns-then-number-ne0 : goal.returns-then-number-ne0
-returns-then-number-ne0 c = file_refused _ c.refused_file-then-number-ne0.ensures c.judge-number.ensures c.if-number-ne0.true
-
-pub returns : goal.returns
-returns c = let whole = c.decode_file-decoded.ensures in
-    file_opened _ (sym c.judge-number.ensures ∙ c.if-number-ne0.false) (ap (λ (d : DecodedFile). d.trains) whole) (ap (λ (d : DecodedFile). d.at) whole)
-    (ap (λ (d : DecodedFile). d.line) whole)
+pub judge-requires : goal.judge-requires
+judge-requires c = (sym c.in_ok-check_length.ensures, c.decode_file-decoded.ensures)
