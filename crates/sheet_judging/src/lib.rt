@@ -6,6 +6,7 @@ ghost use Rattle.rules.specs.Count.{entry, every};
 ghost use Rattle.rules.specs.Refusal.{refusal, count_rule, sheet_rule, hold_rule, adding_rules};
 ghost use Rattle.holds.specs.Values.{as_sheet, as_hold};
 ghost use Rattle.refusals.specs.Number.{refused_by};
+ghost use Rattle.sheet_judging.specs.Times.{times_kept};
 
 use holds::{HoldRecord, Sheet};
 use refusals::Refusal;
@@ -15,9 +16,10 @@ const MOST_BLOCKS: u64 = 32;
 const MOST_TRAINS: u64 = 64;
 
 // 2^44 microseconds.
-pub const LATEST_END: u64 = 17592186044416;
+const LATEST_END: u64 = 17592186044416;
 
-fn all_at_most(times: &[u64], bound: u64) -> bool
+// Each time is at most the bound.
+pub fn all_at_most(times: &[u64], bound: u64) -> bool
     ensures { result ≡ every (length times.now) (λ b. leb (entry times.now b) bound) }
 {
     times.iter().all(|time| *time <= bound)
@@ -29,6 +31,16 @@ fn all_ordered(begins: &[u64], ends: &[u64]) -> bool
         ≡ every (min (length begins.now) (length ends.now)) (λ b. ltb (entry begins.now b) (entry ends.now b)) }
 {
     begins.iter().zip(ends).all(|(begin, end)| begin < end)
+}
+
+// Rule 14 of the times of holds: each beginning is below the end beside it, and no end is too late.
+pub fn times_kept(begins: &[u64], ends: &[u64]) -> bool
+    ensures { result ≡ times_kept begins.now ends.now }
+{
+    begins
+        .iter()
+        .zip(ends)
+        .all(|(begin, end)| begin < end && *end <= LATEST_END)
 }
 
 // Rule 12 of a block count.
@@ -56,9 +68,7 @@ fn hold_kept(blocks: u64, hold: &HoldRecord) -> bool
     ensures { result ≡ hold_rule blocks (as_hold hold.now) }
 {
     let n = blocks as usize;
-    hold.blocks == blocks
-        && all_ordered(&hold.begins[..n], &hold.ends[..n])
-        && all_at_most(&hold.ends[..n], LATEST_END)
+    hold.blocks == blocks && times_kept(&hold.begins[..n], &hold.ends[..n])
 }
 
 // The first broken rule of 12 to 14, for a sheet and a hold record.
