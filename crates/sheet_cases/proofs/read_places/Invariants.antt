@@ -1,5 +1,0 @@
-use Rattle.std.proofs.Common.{◌-◌}
-use Rattle.sheet_cases.proofs.read_places.Given as goal
-
-abbrev pub decreases-loop-b : goal.decreases-loop-b
-decreases-loop-b g l = 32 - l.b
