@@ -1,5 +1,4 @@
 -- What the decoded line and train stand for in the rules: the same numbers, and of each array the entries in use.
-use Rattle.std.specs.Prelude.{List, ℕ, replicate}
 use Rattle.rules.specs.Count.{entry, row}
 use Rattle.rules.specs.Line as rules
 use Rattle.values.specs.declared.decoded.Line.{Line}
@@ -29,40 +28,4 @@ as_train t =
       rates = row (entry t.rates) t.band_count;
       stops = row (entry t.stops) t.stop_count;
       dwells = row (entry t.dwells) t.stop_count;
-    }
-
--- ---- where there is no line or train
-
-abbrev pub zeros : List ℕ
-zeros = replicate 64 0
-
-abbrev pub no_line : Line
-no_line =
-    record {
-      points = 0;
-      step = 0;
-      set_up = 0;
-      release = 0;
-      limit_count = 0;
-      limit_points = zeros;
-      limits = zeros;
-      block_count = 0;
-      block_starts = zeros;
-      block_ends = zeros;
-      balise_count = 0;
-      balise_points = zeros;
-      balise_metres = zeros;
-    }
-
-abbrev pub no_train : Train
-no_train =
-    record {
-      class = record { 0 = 0 };
-      length = 0;
-      band_count = 0;
-      tops = zeros;
-      rates = zeros;
-      stop_count = 0;
-      stops = zeros;
-      dwells = zeros;
     }
