@@ -62,11 +62,11 @@ fn fresh(blocks: u64) -> Sheet
     }
 }
 
-// Adds a train to a lent sheet with any contents. A refusal leaves the sheet as it was.
-pub fn add(sheet: &mut Sheet, hold: HoldRecord) -> Result<Added, Refusal>
-    ensures { answered result sheet.new ≡ rules.added (as_sheet sheet.old) (as_hold hold) }
+// Adds a train where the sheet lies. A refusal leaves the sheet as it was.
+fn place_train(sheet: &mut Sheet, hold: &HoldRecord) -> Result<Added, Refusal>
+    ensures { answered result sheet.new ≡ rules.added (as_sheet sheet.old) (as_hold hold.now) }
 {
-    check_adding(sheet, &hold)?;
+    check_adding(sheet, hold)?;
     let blocks = sheet.blocks as usize;
     let begins = &hold.begins[..blocks];
     let start = longest_wait(&sheet.free[..blocks], begins);
@@ -77,22 +77,39 @@ pub fn add(sheet: &mut Sheet, hold: HoldRecord) -> Result<Added, Refusal>
     Ok(Added { start, block })
 }
 
-// The same of a sheet by value.
+// Adds a train to a sheet with any contents. A refusal leaves the sheet as it was.
 pub fn with_hold(mut sheet: Sheet, hold: HoldRecord) -> Addition
     ensures { as_addition result ≡ rules.added (as_sheet sheet) (as_hold hold) }
 {
-    let answer = add(&mut sheet, hold);
+    let answer = place_train(&mut sheet, &hold);
     Addition { answer, sheet }
+}
+
+// The sheet is lent, and altered there.
+pub fn add(sheet: &mut Sheet, hold: HoldRecord) -> Result<Added, Refusal>
+    ensures { answered result sheet.new ≡ rules.added (as_sheet sheet.old) (as_hold hold) }
+{
+    let done = with_hold(*sheet, hold);
+    *sheet = done.sheet;
+    done.answer
 }
 
 // The second train's start on a sheet of these two.
 pub fn headway(first: HoldRecord, second: HoldRecord) -> Result<u64, Refusal>
     ensures { as_headway_answer result ≡ rules.headway (as_hold first) (as_hold second) }
 {
-    let mut sheet = open_sheet(first.blocks)?;
-    add(&mut sheet, first)?;
-    let later = add(&mut sheet, second)?;
-    Ok(later.start)
+    let sheet = open_sheet(first.blocks)?;
+    let one = with_hold(sheet, first);
+    let earlier = one.answer;
+    let Ok(_) = earlier else {
+        return earlier.map(|added| added.start);
+    };
+    let two = with_hold(one.sheet, second);
+    let later = two.answer;
+    let Ok(added) = later else {
+        return later.map(|added| added.start);
+    };
+    Ok(added.start)
 }
 
 // The shortest period with which a sheet is repeated, on a sheet with any contents: rule 12.

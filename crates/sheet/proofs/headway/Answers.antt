@@ -1,9 +1,10 @@
 -- `headway`: the opening, then each addition's answer by its case.
-use Rattle.std.proofs.Common.{◌≡◌, ◌≢◌, ℕ, refl}
+use Rattle.std.proofs.Common.{◌≡◌, ◌≢◌, ℕ, refl, ap}
 use borrow.Author.Tests.{eq-eqb, ne_eqb}
 use Rattle.rules.specs.Calls.{Opening, Addition, accepted, refused, headway_of, no_headway, opened, added, headway}
 use Rattle.rules.specs.Hold.{Hold}
 use Rattle.refusals.proofs.Passing.{numbered}
+use Rattle.sheet.specs.Values.{as_answer}
 use Rattle.sheet.proofs.Refused.{passed_as}
 use Rattle.sheet.proofs.headway.Goals as goal
 
@@ -30,13 +31,17 @@ module _ (first second : Hold) {opening : Opening} (e : opening ≡ opened first
 pub returns-in_err-sheet : goal.returns-in_err-sheet
 returns-in_err-sheet c = rw (passed_as _ _ c.from_residual.ensures.1) (not_opened _ _ c.in_err-sheet.ensures.sheet (numbered _))
 
-pub returns-in_err-add : goal.returns-in_err-add
-returns-in_err-add c = rw (passed_as _ _ c.from_residual-in_err-add.ensures.1) (first-refused _ _ c.in_ok-sheet.ensures.sheet refl c.in_err-add.ensures refl)
+pub returns-in_default : goal.returns-in_default
+returns-in_default c =
+    let mapped = rw c.in_default.is at c.map.ensures.cases in
+    rw mapped (first-refused _ _ c.in_ok-sheet.ensures.sheet refl c.with_hold-one.ensures (ap as_answer c.in_default.is))
 
-pub returns-in_err-later : goal.returns-in_err-later
-returns-in_err-later c =
-    rw (passed_as _ _ c.from_residual-in_err-later.ensures.1)
-    (second_refused _ _ c.in_ok-sheet.ensures.sheet refl c.in_ok-add.ensures refl c.in_err-later.ensures refl)
+pub returns-in_default-later : goal.returns-in_default-later
+returns-in_default-later c =
+    let mapped = rw c.in_default-later.is at c.map-in_default-later.ensures.cases in
+    rw mapped
+    (second_refused _ _ c.in_ok-sheet.ensures.sheet refl c.with_hold-one.ensures (ap as_answer c.in-Ok.is) c.with_hold-two.ensures
+    (ap as_answer c.in_default-later.is))
 
 pub returns : goal.returns
-returns c = second_start _ _ c.in_ok-sheet.ensures.sheet refl c.in_ok-add.ensures refl c.in_ok-later.ensures refl
+returns c = second_start _ _ c.in_ok-sheet.ensures.sheet refl c.with_hold-one.ensures (ap as_answer c.in-Ok.is) c.with_hold-two.ensures (ap as_answer c.in-Ok-later.is)

@@ -1,4 +1,4 @@
--- `add`: the refusal, or the parts of an accepted addition.
+-- `place_train`: the refusal, or the parts of an accepted addition.
 use Rattle.std.proofs.Common.{rules, ◌≡◌, ◌≢◌, ◌≤◌, ◌<◌, ◌+◌, ◌-◌, ◌*◌, ◌^◌, ◌∙◌, ◌++◌, ℕ, true, List, [], length, take, drop, min, eqb, sym, ap, arith}
 use mathlib.Core.Bool.{cond}
 use mathlib.Core.Option.{Option, none, some}
@@ -18,7 +18,7 @@ use Rattle.holds.specs.Values.{as_sheet, as_hold}
 use Rattle.sheet.proofs.InUse.{wait_in_use, block_in_use, written_in_use, kept_in_use}
 use Rattle.refusals.proofs.Passing.{numbered}
 use Rattle.sheet.proofs.Refused.{passed_as}
-use Rattle.sheet.proofs.add.Goals as goal
+use Rattle.sheet.proofs.place_train.Goals as goal
 
 -- a number other than 0 is that of a broken rule
 some_of : (o : Option ℕ) {n : ℕ} → n ≡ or_zero o → n ≢ 0 → o ≡ some n
@@ -87,26 +87,26 @@ returns-in_err-check_adding c = rw (passed_as _ _ c.from_residual.ensures.1) (re
 
 pub shared_ref_as_front-begins : goal.shared_ref_as_front-begins
 shared_ref_as_front-begins c =
-    let kept = kept_by (as_sheet c.args.sheet.now) (as_hold c.args.hold) c.in_ok-check_adding.ensures in
+    let kept = kept_by (as_sheet c.args.sheet.now) (as_hold c.args.hold.now) c.in_ok-check_adding.ensures in
     kept.0.blocks-most
 
 pub overflow_add-sheet : goal.overflow_add-sheet
 overflow_add-sheet c =
-    let kept = kept_by (as_sheet c.args.sheet.now) (as_hold c.args.hold) c.in_ok-check_adding.ensures in
+    let kept = kept_by (as_sheet c.args.sheet.now) (as_hold c.args.hold.now) c.in_ok-check_adding.ensures in
     omega (arith, kept.0.trains-most)
 
 pub release-requires-clause-start_bound : goal.release-requires-clause-start_bound
 release-requires-clause-start_bound c =
-    let kept = kept_by (as_sheet c.args.sheet.now) (as_hold c.args.hold) c.in_ok-check_adding.ensures in
+    let kept = kept_by (as_sheet c.args.sheet.now) (as_hold c.args.hold.now) c.in_ok-check_adding.ensures in
     start_in _ _ kept (record { free = omega arith; first = omega arith; begins = omega arith; ends = omega arith }) c.longest_wait-start.ensures
 
 pub release-requires-clause-ends_bound : goal.release-requires-clause-ends_bound
 release-requires-clause-ends_bound c =
-    let kept = kept_by (as_sheet c.args.sheet.now) (as_hold c.args.hold) c.in_ok-check_adding.ensures in
-    λ b l. rw (get_or-take c.args.sheet.now.blocks c.args.hold.ends b 0 (omega (arith, length-take-le c.args.sheet.now.blocks c.args.hold.ends (omega arith)))) (kept.2.end-most b (omega (arith, length-take-le c.args.sheet.now.blocks c.args.hold.ends (omega arith))))
+    let kept = kept_by (as_sheet c.args.sheet.now) (as_hold c.args.hold.now) c.in_ok-check_adding.ensures in
+    λ b l. rw (get_or-take c.args.sheet.now.blocks c.args.hold.now.ends b 0 (omega (arith, length-take-le c.args.sheet.now.blocks c.args.hold.now.ends (omega arith)))) (kept.2.end-most b (omega (arith, length-take-le c.args.sheet.now.blocks c.args.hold.now.ends (omega arith))))
 
 pub returns : goal.returns
 returns c =
-    let kept = kept_by (as_sheet c.args.sheet.now) (as_hold c.args.hold) c.in_ok-check_adding.ensures in
-    let places : Places (as_sheet c.args.sheet.now) (as_hold c.args.hold) = record { free = omega arith; first = omega arith; begins = omega arith; ends = omega arith } in
+    let kept = kept_by (as_sheet c.args.sheet.now) (as_hold c.args.hold.now) c.in_ok-check_adding.ensures in
+    let places : Places (as_sheet c.args.sheet.now) (as_hold c.args.hold.now) = record { free = omega arith; first = omega arith; begins = omega arith; ends = omega arith } in
     accepted_by _ _ kept places c.longest_wait-start.ensures _ _ c.block_named-block.ensures (Prim.search rules) c.release.ensures c.keep_first.ensures
