@@ -1,9 +1,9 @@
 -- The tests that the code makes of placed rows, beside rule 16. Assumes nothing.
-use Prim.Native.Nat.{ℕ, zero, suc, ◌+◌, ◌-◌, ◌*◌, ◌^◌, ◌≤◌, ◌<◌}
+use Prim.Native.Nat.{ℕ, zero, suc, ◌+◌, ◌-◌, ◌*◌, ◌^◌, ◌≤◌, ◌<◌, min}
 use mathlib.Core.Bool.{true}
 use mathlib.Core.List.{List}
 use mathlib.Core.Logic.{◌↔◌, ⊎_elim}
-use mathlib.Core.Path.{◌≡◌, refl, ap, ap₂, ◌∙◌}
+use mathlib.Core.Path.{◌≡◌, refl, ap, ◌∙◌}
 use native.Mathlib.Decide.{dec_lt}
 use native.Mathlib.Nat.{mul-le-mul, mul-le-mul_right, suc-mul, zero-mul, eq-or-lt_of_le, le_of_suc-le-suc}
 use native.Mathlib.Omega.{arith}
@@ -18,9 +18,9 @@ use Rattle.rules.specs.Admitted.{Rule14}
 use Rattle.rules.specs.Path.{PlacedRows, placed_holds, begun_at, ended_at, rows_rule}
 use Rattle.rules.proofs.Count.{and_left, and_right, and_both, every-at, every_all, same_test}
 use Rattle.rules.proofs.Path.{holds_count, hold_at, rule_16_rows}
-use Rattle.order.specs.Clear.{clear_of}
 use Rattle.order.proofs.Clear.{clear_means}
-use Rattle.path_judging.specs.Rows.{holds_kept, row_of, next_clear, each_clear}
+use Rattle.sheet_judging.specs.Times.{times_kept}
+use Rattle.path_judging.specs.Rows.{row_of, next_clear, each_clear}
 
 -- where row k of the m rows of n entries lies
 pub row_within : (n m k at : ℕ) → at ≡ k * n → k < m → at + n ≤ m * n
@@ -56,18 +56,6 @@ next_row n k at e =
     let up : k + 1 ≡ suc k = omega arith in
     rw up (omega (arith, e, suc-mul k n))
 
--- row k and the next, as parts of the slices that the code lends
-pub next_rows :
-    (n : ℕ) (p : PlacedRows) (k at : ℕ) → at ≡ k * n →
-    clear_of (entry p.starts k) (take (at + n - at) (drop at p.ends)) (entry p.starts (k + 1)) (take (at + n + n - (at + n)) (drop (at + n) p.begins))
-    ≡ next_clear n p k
-unfolding next_clear
-next_rows n p k at e =
-    let one : at + n - at ≡ n = omega arith in
-    let two : at + n + n - (at + n) ≡ n = omega arith in
-    ap₂ (λ x y. clear_of (entry p.starts k) x (entry p.starts (k + 1)) y) (ap₂ (λ c d. take c (drop d p.ends)) one e)
-    (ap₂ (λ c d. take c (drop d p.begins)) two (next_row n k at e))
-
 module _ (n : ℕ) (p : PlacedRows) (begins-rows : length p.begins ≡ length p.starts * n) (ends-rows : length p.ends ≡ length p.starts * n) where
   abbrev m : ℕ
   m = length p.starts
@@ -91,21 +79,21 @@ module _ (n : ℕ) (p : PlacedRows) (begins-rows : length p.begins ≡ length p.
   within : (k b : ℕ) → k < m → b < n → k * n + b < length p.ends
   within k b l c = omega (arith, row_within n m k (k * n) refl l, ends-rows)
 
-  pub kept-rows : holds_kept p.begins p.ends ≡ true → (k : ℕ) → k < m → Rule14 n (get_or hs k empty_hold)
-  unfolding holds_kept
+  pub kept-rows : times_kept p.begins p.ends ≡ true → (k : ℕ) → k < m → Rule14 n (get_or hs k empty_hold)
+  unfolding times_kept
   kept-rows e k l =
       let at : (b : ℕ) → b < n → (ltb (entry p.begins (k * n + b)) (entry p.ends (k * n + b)) and leb (entry p.ends (k * n + b)) (2 ^ 44)) ≡ true =
-      λ b c. every-at _ (length p.ends) e (k * n + b) (within k b l c) in
+      λ b c. every-at _ (min (length p.begins) (length p.ends)) e (k * n + b) (omega (arith, begins-rows, ends-rows, within k b l c)) in
       record {
         count = ap (λ (h : Hold). h.blocks) (row_at k l);
         ordered = λ b c. rw (begin-at k b l c, end-at k b l c) (ltb-true _ _ (and_left _ _ (at b c)));
         end-most = λ b c. rw (end-at k b l c) (leb-true _ _ (and_right _ _ (at b c)));
       }
 
-  pub rows_tested : ((k : ℕ) → k < m → Rule14 n (get_or hs k empty_hold)) → holds_kept p.begins p.ends ≡ true
-  unfolding holds_kept
+  pub rows_tested : ((k : ℕ) → k < m → Rule14 n (get_or hs k empty_hold)) → times_kept p.begins p.ends ≡ true
+  unfolding times_kept
   rows_tested kept =
-      every_all _ (length p.ends) (λ i l.
+      every_all _ (min (length p.begins) (length p.ends)) (λ i l.
       let e = entry_of n m i (omega (arith, ends-rows, l)) in
       let k = e.row in
       let b = e.block in

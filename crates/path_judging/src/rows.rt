@@ -1,91 +1,60 @@
 // The rows' part of rule 16, of slices with any contents.
-ghost use Rattle.std.specs.Prelude.{◌≡◌, ◌*◌, ◌^◌, ◌≤◌, leb, length};
-ghost use Rattle.rules.specs.Count.{entry, every};
+ghost use Rattle.std.specs.Prelude.{◌≡◌, ◌*◌, ◌≤◌};
 ghost use Rattle.rules.specs.Path.{rows_rule};
-ghost use Rattle.path_judging.specs.Rows.{placed_rows, holds_kept, each_clear};
+ghost use Rattle.path_judging.specs.Rows.{as_rows, row_of, each_clear};
 
 use crate::LATEST_START;
 use order::clear_of;
-use sheet_judging::LATEST_END;
+use sheet_judging::{all_at_most, times_kept};
 
 const MOST_ROWS: usize = 64;
 
-fn starts_kept(starts: &[u64]) -> bool
-    ensures { result ≡ every (length starts.now) (λ k. leb (entry starts.now k) (2 ^ 50)) }
-{
-    let mut k = 0;
-    while k < starts.len() {
-        if LATEST_START < starts[k] {
-            return false;
-        }
-        k += 1;
-    }
-    true
+// Trains already sold, in running order: their starts, and train by train the beginnings and ends of their holds.
+#[derive(Clone, Copy)]
+pub struct PlacedRows<'a> {
+    pub starts: &'a [u64],
+    pub begins: &'a [u64],
+    pub ends: &'a [u64],
 }
 
-// Rule 14 of all rows, entry by entry.
-fn holds_kept(begins: &[u64], ends: &[u64]) -> bool
-    requires { length begins.now ≡ length ends.now }
-    ensures { result ≡ holds_kept begins.now ends.now }
+// The n entries of row k, as far as they are there.
+pub fn row_of(n: usize, k: usize, entries: &[u64]) -> &[u64]
+    ensures { result.now ≡ row_of n k entries.now }
 {
-    let mut i = 0;
-    while i < ends.len() {
-        if ends[i] <= begins[i] {
-            return false;
-        }
-        if LATEST_END < ends[i] {
-            return false;
-        }
-        i += 1;
-    }
-    true
+    let behind = &entries[k.saturating_mul(n).min(entries.len())..];
+    &behind[..n.min(behind.len())]
 }
 
 // Each row is clear of the next.
-fn each_clear(n: usize, starts: &[u64], begins: &[u64], ends: &[u64]) -> bool
-    requires n_bound { (n ≤ 32) × (length starts.now ≤ 64) }
-    requires begins_len { (length begins.now ≡ length starts.now * n) × (length ends.now ≡ length starts.now * n) }
-    ensures { result ≡ each_clear n (placed_rows starts.now begins.now ends.now) }
+fn each_clear(n: usize, rows: PlacedRows) -> bool
+    ensures { result ≡ each_clear n (as_rows rows.entry) }
 {
-    let mut at = 0;
-    let mut k = 0;
-    while k + 1 < starts.len() {
-        let next = at + n;
-        let over = next + n;
+    for k in 1..rows.starts.len() {
         if !clear_of(
-            starts[k],
-            &ends[at..next],
-            starts[k + 1],
-            &begins[next..over],
+            rows.starts[k - 1],
+            row_of(n, k - 1, rows.ends),
+            rows.starts[k],
+            row_of(n, k, rows.begins),
         ) {
             return false;
         }
-        at = next;
-        k += 1;
     }
     true
 }
 
 // The lengths are judged before a row is read.
-pub(crate) fn rows_kept(n: usize, starts: &[u64], begins: &[u64], ends: &[u64]) -> bool
+pub(crate) fn rows_kept(n: usize, rows: PlacedRows) -> bool
     requires { n ≤ 32 }
-    ensures { result ≡ rows_rule n (placed_rows starts.now begins.now ends.now) }
+    ensures { result ≡ rows_rule n (as_rows rows.entry) }
 {
-    if MOST_ROWS < starts.len() {
+    if MOST_ROWS < rows.starts.len() {
         return false;
     }
-    let entries = starts.len() * n;
-    if begins.len() != entries {
+    let entries = rows.starts.len() * n;
+    if rows.begins.len() != entries || rows.ends.len() != entries {
         return false;
     }
-    if ends.len() != entries {
-        return false;
-    }
-    if !starts_kept(starts) {
-        return false;
-    }
-    if !holds_kept(begins, ends) {
-        return false;
-    }
-    each_clear(n, starts, begins, ends)
+    all_at_most(rows.starts, LATEST_START)
+        && times_kept(rows.begins, rows.ends)
+        && each_clear(n, rows)
 }

@@ -1,89 +1,45 @@
--- `each_clear`: at the loop's test the first k rows are clear of the next, and row k begins at k times n.
-use Prim.Native.Nat.{ℕ, suc, ◌+◌, ◌<◌, ◌*◌, ◌≤◌}
-use mathlib.Core.Path.{◌≡◌, sym, ◌∙◌}
-use native.Mathlib.Nat.{suc-mul, zero-mul}
-use native.Mathlib.Omega.{arith}
-use lib.ListN.{length}
-use borrow.Author.Rules.{rules}
-use Rattle.rules.proofs.Loops.{every-none, every_more, every-broken, every_done, passed, failed}
-use Rattle.path_judging.specs.Rows.{placed_rows, next_clear, each_clear}
-use Rattle.path_judging.proofs.Placed.{row_within, most_entries, next_row, next_rows}
-use mathlib.Core.Path.{ap}
-use mathlib.Core.Bool.{not}
+-- `each_clear`: at the loop's test each row before k is clear of the next, as far as that one lies before k too.
+use Rattle.std.proofs.Common.{◌≡◌, ◌<◌, ◌≤◌, ◌+◌, ◌-◌, ℕ, Bool, true, false, List, length, arith, sym, ◌∙◌}
+use Rattle.rules.specs.Count.{entry, every}
+use Rattle.rules.specs.Path.{PlacedRows}
+use Rattle.rules.proofs.Loops.{every-none, every_more, every-broken, every_done}
+use Rattle.order.specs.Clear.{clear_of}
+use Rattle.path_judging.specs.Rows.{as_rows, row_of, next_clear, each_clear}
 use Rattle.path_judging.proofs.rows.each_clear.Goals as goal
 
--- rows k and k + 1 are in the slices
-record Within (n m at : ℕ) : Type 0 where
-  both : at + n + n ≤ m * n
-  few : m * n ≤ 2048
+module _ (n : ℕ) (p : PlacedRows) (k : ℕ) (l : 1 ≤ k) where
+  -- what the code asks of the row before k and of row k
+  asked :
+      {ends begins : List ℕ} → ends ≡ row_of n (k - 1) p.ends → begins ≡ row_of n k p.begins → {r : Bool} →
+      r ≡ clear_of (entry p.starts (k - 1)) ends (entry p.starts k) begins → r ≡ next_clear n p (k - 1)
+  unfolding next_clear
+  asked e f g = let up : k - 1 + 1 ≡ k = omega arith in rw (up, ← e, ← f) g
 
-within : (n m k at : ℕ) → n ≤ 32 → m ≤ 64 → at ≡ k * n → k + 1 < m → Within n m at
-within n m k at l few e more = record {
-  both = row_within n m (suc k) (at + n) (omega (arith, e, suc-mul k n)) (omega arith);
-  few = most_entries n m l few;
-}
+  one_more : every (k - 1) (next_clear n p) ≡ true → next_clear n p (k - 1) ≡ true → every (k + 1 - 1) (next_clear n p) ≡ true
+  one_more before here = let up : k + 1 - 1 ≡ k - 1 + 1 = omega arith in rw up (every_more _ _ before here)
+
+  not_clear : k < length p.starts → next_clear n p (k - 1) ≡ false → false ≡ each_clear n p
+  unfolding each_clear
+  not_clear m here = sym (every-broken _ _ (k - 1) (omega arith) here)
 
 pub loop-k-init : goal.loop-k-init
-loop-k-init c = (sym (zero-mul _), search rules, every-none _)
-
-pub overflow_add-k : goal.overflow_add-k
-overflow_add-k c = omega (arith, c.loop-k.invariant.1, c.requires.n_bound.1)
-
-pub overflow_add-next : goal.overflow_add-next
-overflow_add-next c =
-    let w =
-    within c.args.n (length c.args.starts.now) c.loop-k.k c.loop-k.at c.requires.n_bound.0 c.requires.n_bound.1 c.loop-k.invariant.0
-    (omega (arith, c.loop-k-test.true)) in
-    omega (arith, w)
-
-pub overflow_add-over : goal.overflow_add-over
-overflow_add-over c =
-    let w =
-    within c.args.n (length c.args.starts.now) c.loop-k.k c.loop-k.at c.requires.n_bound.0 c.requires.n_bound.1 c.loop-k.invariant.0
-    (omega (arith, c.loop-k-test.true)) in
-    omega (arith, w)
-
-pub offset_bounds-ends-at : goal.offset_bounds-ends-at
-offset_bounds-ends-at c =
-    let w =
-    within c.args.n (length c.args.starts.now) c.loop-k.k c.loop-k.at c.requires.n_bound.0 c.requires.n_bound.1 c.loop-k.invariant.0
-    (omega (arith, c.loop-k-test.true)) in
-    omega (arith, w)
-
-pub slice_bounds-clear_of-end : goal.slice_bounds-clear_of-end
-slice_bounds-clear_of-end c =
-    let w =
-    within c.args.n (length c.args.starts.now) c.loop-k.k c.loop-k.at c.requires.n_bound.0 c.requires.n_bound.1 c.loop-k.invariant.0
-    (omega (arith, c.loop-k-test.true)) in
-    omega (arith, w, c.requires.begins_len.1)
-
-pub offset_bounds-begins-next : goal.offset_bounds-begins-next
-offset_bounds-begins-next c =
-    let w =
-    within c.args.n (length c.args.starts.now) c.loop-k.k c.loop-k.at c.requires.n_bound.0 c.requires.n_bound.1 c.loop-k.invariant.0
-    (omega (arith, c.loop-k-test.true)) in
-    omega (arith, w)
-
-pub slice_bounds-clear_of-end-in-loop-k : goal.slice_bounds-clear_of-end-in-loop-k
-slice_bounds-clear_of-end-in-loop-k c =
-    let w =
-    within c.args.n (length c.args.starts.now) c.loop-k.k c.loop-k.at c.requires.n_bound.0 c.requires.n_bound.1 c.loop-k.invariant.0
-    (omega (arith, c.loop-k-test.true)) in
-    omega (arith, w, c.requires.begins_len.0)
+loop-k-init c = record { within = omega arith; clear = every-none _ }
 
 pub returns-then-not-clear_of : goal.returns-then-not-clear_of
-unfolding each_clear
 returns-then-not-clear_of c =
-    let asked : c.clear_of.result ≡ next_clear c.args.n (placed_rows c.args.starts.now c.args.begins.now c.args.ends.now) c.loop-k.k = (c.clear_of.ensures ∙ next_rows _ _ _ _ c.loop-k.invariant.0) in
-    sym (every-broken _ _ _ (search rules) (failed asked (ap not c.if-not-clear_of.true)))
+    let p = as_rows c.args.rows in
+    not_clear _ p _ c.loop-k.auto.k c.loop-k-test.true
+    (sym (asked _ p _ c.loop-k.auto.k c.row_of.ensures c.row_of-in-loop-k.ensures c.clear_of.ensures) ∙ c.if-not-clear_of.true)
 
 pub loop-k-preserved : goal.loop-k-preserved
 loop-k-preserved c =
-    let asked : c.clear_of.result ≡ next_clear c.args.n (placed_rows c.args.starts.now c.args.begins.now c.args.ends.now) c.loop-k.k = (c.clear_of.ensures ∙ next_rows _ _ _ _ c.loop-k.invariant.0) in
-    let inv = c.loop-k.invariant in
-    (next_row _ _ _ inv.0, search rules, every_more _ _ inv.2 (passed asked (ap not c.if-not-clear_of.false)))
+    let p = as_rows c.args.rows in
+    record {
+      within = omega arith;
+      clear = one_more _ p _ c.loop-k.auto.k c.loop-k.invariant.clear
+          (sym (asked _ p _ c.loop-k.auto.k c.row_of.ensures c.row_of-in-loop-k.ensures c.clear_of.ensures) ∙ c.if-not-clear_of.false);
+    }
 
 pub returns : goal.returns
 unfolding each_clear
-returns c = let inv = c.loop-k.invariant in
-    sym (every_done _ inv.1 (omega arith) inv.2)
+returns c = sym (every_done _ c.loop-k.invariant.within (omega arith) c.loop-k.invariant.clear)

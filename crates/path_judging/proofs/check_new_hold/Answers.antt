@@ -1,4 +1,4 @@
--- `new_hold_refusal`: a fresh sheet keeps 12 by its block count alone, and 13.
+-- `check_new_hold`: a fresh sheet keeps 12 by its block count alone, and 13.
 use Prim.Native.Nat.{ℕ}
 use mathlib.Core.List.{[], ◌∷◌}
 use mathlib.Core.Path.{◌≡◌, refl, sym, ◌∙◌}
@@ -9,7 +9,7 @@ use Rattle.rules.specs.Path.{new_hold_rules}
 use Rattle.rules.proofs.Count.{same_test, within_means, within_holds}
 use Rattle.rules.proofs.Refusal.{refusal_cons, head_kept}
 use Rattle.rules.proofs.Sheet.{rule_12, sound_fresh}
-use Rattle.path_judging.proofs.new_hold_refusal.Goals as goal
+use Rattle.path_judging.proofs.check_new_hold.Goals as goal
 
 -- a fresh sheet keeps 12 by its block count alone
 fresh-rule : (n : ℕ) → sheet_rule (fresh n) ≡ count_rule n
@@ -27,4 +27,4 @@ as_added h =
 
 pub returns : goal.returns
 unfolding fresh
-returns c = c.adding_refusal.ensures ∙ as_added _
+returns c = c.check_adding.ensures ∙ as_added _
