@@ -11,7 +11,17 @@ use Rattle.rules.specs.Path.{PlacedRows, placed_holds, placing_rules, path_rules
 use Rattle.rules.specs.Path.{RightPath}
 use Rattle.rules.proofs.Refusal.{append-refused}
 use Rattle.rules.proofs.Path.{path-number, path_told}
-use Rattle.path.specs.Values.{LeastPlace}
+use Rattle.std.specs.Prelude.{Result, Ok, Err}
+use Rattle.std.specs.Result.{IsErrAnd}
+use Rattle.refusals.specs.declared.Refusal.{Refusal}
+use Rattle.refusals.specs.Number.{number}
+use Rattle.path.specs.declared.search.Path.{Path}
+use Rattle.path.specs.Values.{as_path_answer, LeastPlace}
+
+-- a refusal that leaves by `?` is the answer's
+pub refusal_told : (r : Result Path Refusal) (e : Refusal) → IsErrAnd r (λ x. x ≡ e) → as_path_answer r ≡ no_path (number e)
+refusal_told (Ok p) e h = absurd h
+refusal_told (Err x) e h = rw h
 
 module _ (h : Hold) (p : PlacedRows) (low high : ℕ) where
   abbrev hs : List Hold

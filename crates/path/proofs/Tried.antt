@@ -1,12 +1,12 @@
 -- The search through the places. Assumes nothing.
-use Prim.Native.Nat.{ℕ, suc, ◌+◌, ◌-◌, ◌*◌, ◌^◌, ◌≤◌, ◌<◌}
+use Prim.Native.Nat.{ℕ, suc, ◌+◌, ◌*◌, ◌^◌, ◌≤◌, ◌<◌}
 use mathlib.Core.Bool.{Bool, true, false}
 use mathlib.Core.List.{List}
-use mathlib.Core.Path.{◌≡◌, sym, ap, ap₂, ◌∙◌}
+use mathlib.Core.Path.{◌≡◌, refl, ap}
 use native.Mathlib.Decide.{dec_lt}
 use native.Mathlib.Numerals.{add-one}
 use native.Mathlib.Omega.{arith}
-use lib.ListN.{length, get_or, take, drop}
+use lib.ListN.{length, get_or, take}
 use lib.Seq.{length-take-le, get_or-take}
 use Rattle.rules.specs.Count.{entry}
 use Rattle.rules.specs.Hold.{Hold, empty_hold}
@@ -17,6 +17,7 @@ use Rattle.rules.proofs.Count.{below_suc}
 use Rattle.rules.proofs.Path.{holds_count, hold_at}
 use Rattle.order.specs.Clear.{clear_of}
 use Rattle.order.proofs.Clear.{clear_means, unclear}
+use Rattle.path_judging.specs.Rows.{row_of}
 use Rattle.path_judging.proofs.Placed.{row-length}
 use Rattle.path.specs.Values.{LeastBehind, LeastPlace}
 
@@ -102,27 +103,17 @@ module _ (h : Hold) (p : PlacedRows) (low : ℕ) (rows : Rule16Rows h.blocks p) 
   ordered : (k : ℕ) → k < length hs → (b : ℕ) → b < n → begun_at hs ts k b < ended_at hs ts k b
   ordered k l b c = omega (arith, (rows.rows-kept k (omega (arith, l, count))).ordered b c)
 
-  -- row k, which begins at entry `at`
-  module _ (k at : ℕ) (e : at ≡ k * n) (l : k < length ts) where
-    -- n entries of a slice from `at` on, as the code takes them
-    abbrev part : List ℕ → List ℕ
-    part entries = take (at + n - at) (drop at entries)
+  module _ (k : ℕ) (l : k < length ts) where
+    row_length : (entries : List ℕ) → length entries ≡ length ts * n → length (row_of n k entries) ≡ n
+    row_length entries long = row-length n (length ts) k (k * n) entries refl l long
 
-    part_is : (entries : List ℕ) → part entries ≡ take n (drop at entries)
-    part_is entries = let same : at + n - at ≡ n = omega arith in rw same
+    row_is : get_or hs k empty_hold ≡ record { blocks = n; begins = row_of n k p.begins; ends = row_of n k p.ends }
+    row_is = hold_at n (length ts) k (k * n) p.begins p.ends refl l
 
-    part_length : (entries : List ℕ) → length entries ≡ length ts * n → length (part entries) ≡ n
-    part_length entries long = ap length (part_is entries) ∙ row-length n (length ts) k at entries e l long
-
-    row_is : get_or hs k empty_hold ≡ record { blocks = n; begins = part p.begins; ends = part p.ends }
-    row_is =
-        hold_at n (length ts) k at p.begins p.ends e l
-        ∙ ap₂ (λ x y. record { blocks = n; begins = x; ends = y }) (sym (part_is p.begins)) (sym (part_is p.ends))
-
-    begun_is : (b : ℕ) → begun_at hs ts k b ≡ entry ts k + entry (part p.begins) b
+    begun_is : (b : ℕ) → begun_at hs ts k b ≡ entry ts k + entry (row_of n k p.begins) b
     begun_is b = ap (λ (x : Hold). entry ts k + begin x b) row_is
 
-    ended_is : (b : ℕ) → ended_at hs ts k b ≡ entry ts k + entry (part p.ends) b
+    ended_is : (b : ℕ) → ended_at hs ts k b ≡ entry ts k + entry (row_of n k p.ends) b
     ended_is b = ap (λ (x : Hold). entry ts k + end x b) row_is
 
     own : (b : ℕ) → b < n → entry (take n h.ends) b ≡ end h b
@@ -130,17 +121,14 @@ module _ (h : Hold) (p : PlacedRows) (low : ℕ) (rows : Rule16Rows h.blocks p) 
 
     -- what `least_behind` asks of row k: start plus end fits in 64 bits
     pub bounds_at :
-        n ≤ 32 → (entry ts k ≤ 2 ^ 50) × (length (part p.ends) ≤ 32) × ((b : ℕ) → b < length (part p.ends) → entry (part p.ends) b ≤ 2 ^ 44)
-    bounds_at few =
-        let long : length (part p.ends) ≡ n = part_length p.ends rows.ends-rows in (
-          rows.start-most k l,
-          omega arith,
-          λ b c. omega (arith, ended_is b, (rows.rows-kept k l).end-most b (omega arith)),
-        )
+        (entry ts k ≤ 2 ^ 50) × (length (row_of n k p.ends) ≡ n) × ((b : ℕ) → b < length (row_of n k p.ends) → entry (row_of n k p.ends) b ≤ 2 ^ 44)
+    bounds_at =
+        let long : length (row_of n k p.ends) ≡ n = row_length p.ends rows.ends-rows in
+        (rows.start-most k l, long, λ b c. omega (arith, ended_is b, (rows.rows-kept k l).end-most b (omega arith)))
 
     module _ {start : ℕ} (t : Tried h hs ts low k start) where
       abbrev clear : Bool
-      clear = clear_of start (take n h.ends) (entry ts k) (part p.begins)
+      clear = clear_of start (take n h.ends) (entry ts k) (row_of n k p.begins)
 
       pub room_at : clear ≡ true → LeastPlace h hs ts low start k
       room_at g =
@@ -149,17 +137,17 @@ module _ (h : Hold) (p : PlacedRows) (low : ℕ) (rows : Rule16Rows h.blocks p) 
             arith,
             own b c,
             begun_is b,
-            (clear_means start (entry ts k) n (take n h.ends) (part p.begins) (length-take-le n h.ends places)
-                (part_length p.begins rows.begins-rows)).0 g b c,
+            (clear_means start (entry ts k) n (take n h.ends) (row_of n k p.begins) (length-take-le n h.ends places)
+                (row_length p.begins rows.begins-rows)).0 g b c,
           ))
 
       pub next_at :
-          {next : ℕ} → clear ≡ false → LeastBehind (length (part p.ends)) low (entry ts k) (part p.ends) h.begins next →
+          {next : ℕ} → clear ≡ false → LeastBehind (length (row_of n k p.ends)) low (entry ts k) (row_of n k p.ends) h.begins next →
           Tried h hs ts low (k + 1) next
       next_at {next} g f =
-          let long : length (part p.ends) ≡ n = part_length p.ends rows.ends-rows in
-          let (b, c, late) = unclear start (entry ts k) n (take n h.ends) (part p.begins) (length-take-le n h.ends places)
-          (part_length p.begins rows.begins-rows) g in
+          let long : length (row_of n k p.ends) ≡ n = row_length p.ends rows.ends-rows in
+          let (b, c, late) = unclear start (entry ts k) n (take n h.ends) (row_of n k p.begins) (length-take-le n h.ends places)
+          (row_length p.begins rows.begins-rows) g in
           rw add-one
           (tried_more h hs ts low ordered rows.apart k start next t (omega (arith, l, count)) b c (omega (arith, own b c, begun_is b, late)) f.from_low
           (λ b c. omega (arith, ended_is b, f.behind b (omega arith)))

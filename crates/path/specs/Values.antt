@@ -1,13 +1,16 @@
 -- What the path call's answer stands for in the rules, and what its search finds.
-use Rattle.std.specs.Prelude.{ℕ, ◌+◌, ◌≤◌, ◌<◌, List}
+use Rattle.std.specs.Prelude.{ℕ, ◌+◌, ◌≤◌, ◌<◌, List, Result, Ok, Err}
 use Rattle.rules.specs.Count.{entry}
 use Rattle.rules.specs.Hold.{Hold}
 use Rattle.rules.specs.Path as paths
 use Rattle.rules.specs.Path.{IsPlace}
-use Rattle.path.specs.declared.PathAnswer.{PathAnswer}
+use Rattle.refusals.specs.declared.Refusal.{Refusal}
+use Rattle.refusals.specs.Number.{number}
+use Rattle.path.specs.declared.search.Path.{Path}
 
-abbrev pub as_path_answer : PathAnswer → paths.PathAnswer
-as_path_answer r = record { number = r.number; start = r.start; before = r.before }
+abbrev pub as_path_answer : Result Path Refusal → paths.PathAnswer
+as_path_answer (Ok p) = paths.path_of p.start p.before
+as_path_answer (Err r) = paths.no_path (number r)
 
 -- In the first n blocks a train with this start and these beginnings comes behind one ahead with its start and its ends.
 abbrev pub Behind : ℕ → ℕ → List ℕ → List ℕ → ℕ → Type 0

@@ -4,66 +4,53 @@ ghost use Rattle.std.specs.Prelude.{ℕ, ◌^◌, ◌≤◌, ◌<◌, length};
 ghost use Rattle.rules.specs.Count.{entry};
 ghost use Rattle.rules.specs.Path.{placed_holds, Rule16Rows};
 ghost use Rattle.holds.specs.Values.{as_hold};
-ghost use Rattle.path_judging.specs.Rows.{placed_rows};
+ghost use Rattle.path_judging.specs.Rows.{as_rows};
 ghost use Rattle.path.specs.Values.{LeastBehind, LeastPlace};
 
 use holds::HoldRecord;
 use order::clear_of;
+use path_judging::{PlacedRows, row_of};
 use waits::later;
 
 // A start, and how many trains are before its place.
 #[derive(Clone, Copy)]
-pub(crate) struct Place {
+pub struct Path {
     pub start: u64,
     pub before: u64,
 }
 
 // The least start from `low` on that is behind the train ahead in every block.
-fn least_behind(low: u64, ahead: u64, ends: &[u64], begins: &[u64; 32]) -> u64
-    requires { (ahead ≤ 2 ^ 50) × (length ends.now ≤ 32) × ((b : ℕ) → b < length ends.now → entry ends.now b ≤ 2 ^ 44) }
+fn least_behind(low: u64, ahead: u64, ends: &[u64], begins: &[u64]) -> u64
+    requires fits { (ahead ≤ 2 ^ 50) × ((b : ℕ) → b < length ends.now → entry ends.now b ≤ 2 ^ 44) }
+    requires blocks { length ends.now ≤ length begins.now }
     ensures { LeastBehind (length ends.now) low ahead ends.now begins.now result }
 {
     let mut start = low;
-    let mut b = 0;
-    while b < ends.len() {
-        start = later(start, ahead + ends[b], begins[b]);
-        b += 1;
+    for (b, end) in ends.iter().enumerate() {
+        start = later(start, ahead + *end, begins[b]);
     }
     start
 }
 
 // The first place that has room, and the least start there.
-pub(crate) fn first_place(
-    hold: HoldRecord,
-    starts: &[u64],
-    begins: &[u64],
-    ends: &[u64],
-    low: u64,
-) -> Place
-    requires { (hold.blocks ≤ 32) × Rule16Rows hold.blocks (placed_rows starts.now begins.now ends.now) }
-    ensures { LeastPlace (as_hold hold) (placed_holds hold.blocks (placed_rows starts.now begins.now ends.now))
-        starts.now low result.start result.before }
+pub(crate) fn first_place(hold: &HoldRecord, rows: PlacedRows, low: u64) -> Path
+    requires { (hold.now.blocks ≤ 32) × Rule16Rows hold.now.blocks (as_rows rows) }
+    ensures { LeastPlace (as_hold hold.now) (placed_holds hold.now.blocks (as_rows rows.entry))
+        rows.entry.starts.now low result.start result.before }
 {
     let n = hold.blocks as usize;
-    let own_begins = hold.begins;
-    let own_ends = hold.ends;
     let mut start = low;
-    let mut at = 0;
-    let mut k = 0;
-    while k < starts.len() {
-        let next = at + n;
-        if clear_of(start, &own_ends[..n], starts[k], &begins[at..next]) {
-            return Place {
+    for (k, ahead) in rows.starts.iter().enumerate() {
+        if clear_of(start, &hold.ends[..n], *ahead, row_of(n, k, rows.begins)) {
+            return Path {
                 start,
                 before: k as u64,
             };
         }
-        start = least_behind(low, starts[k], &ends[at..next], &own_begins);
-        at = next;
-        k += 1;
+        start = least_behind(low, *ahead, row_of(n, k, rows.ends), &hold.begins);
     }
-    Place {
+    Path {
         start,
-        before: k as u64,
+        before: rows.starts.len() as u64,
     }
 }

@@ -1,42 +1,44 @@
 -- `path`: the rules before 17, then the search.
-use mathlib.Core.Path.{sym, ◌∙◌}
+use Rattle.std.proofs.Common.{sym, ◌∙◌}
+use Rattle.std.proofs.lemmas.Bool.{leb-true, leb-false}
 use Rattle.rules.specs.Path.{Placeable}
 use Rattle.rules.proofs.Path.{placeable, path_told}
 use Rattle.holds.specs.Values.{as_hold}
-use Rattle.path_judging.specs.Rows.{placed_rows}
-use Rattle.path.proofs.Answers.{refused-before, found_late, found_in_time}
+use Rattle.path_judging.specs.Rows.{as_rows}
+use Rattle.refusals.proofs.Passing.{refuses, passes, numbered}
+use Rattle.path.proofs.Answers.{refusal_told, refused-before, found_late, found_in_time}
 use Rattle.path.proofs.path.Goals as goal
 
-pub returns-then-number-ne0 : goal.returns-then-number-ne0
-returns-then-number-ne0 c =
-    let a = c.args in
-    let told =
-    path_told (as_hold a.hold) (placed_rows a.starts.now a.begins.now a.ends.now) a.low a.high
-    (c.refused.ensures ∙ refused-before _ _ _ _ c.placing_refusal-number.ensures c.if-number-ne0.true) in
+pub returns-in_err-check_placing : goal.returns-in_err-check_placing
+returns-in_err-check_placing c =
+    let h = as_hold c.args.hold.now in
+    let p = as_rows c.args.rows in
+    let told = path_told h p c.args.low c.args.high
+    (refusal_told _ _ c.from_residual.ensures.1
+    ∙ refused-before h p c.args.low c.args.high c.in_err-check_placing.ensures (numbered _)) in
     record { answer = told.0; path = told.1 }
 
-pub first_place-place-requires : goal.first_place-place-requires
-first_place-place-requires c =
-    let a = c.args in
-    let k : Placeable (as_hold a.hold) (placed_rows a.starts.now a.begins.now a.ends.now) a.low a.high =
-    placeable _ _ _ _ (sym c.placing_refusal-number.ensures ∙ c.if-number-ne0.false) in (k.blocks-most, k.rows)
+pub first_place-found-requires : goal.first_place-found-requires
+first_place-found-requires c =
+    let kept : Placeable (as_hold c.args.hold.now) (as_rows c.args.rows) c.args.low c.args.high = placeable _ _ _ _ (sym c.in_ok-check_placing.ensures) in
+    (kept.blocks-most, kept.rows)
 
-pub returns-then-high-place : goal.returns-then-high-place
-returns-then-high-place c =
-    let a = c.args in
-    let kept : Placeable (as_hold a.hold) (placed_rows a.starts.now a.begins.now a.ends.now) a.low a.high =
-    placeable _ _ _ _ (sym c.placing_refusal-number.ensures ∙ c.if-number-ne0.false) in
-    let told =
-    path_told (as_hold a.hold) (placed_rows a.starts.now a.begins.now a.ends.now) a.low a.high
-    (c.refused-then-high-place.ensures ∙ found_late _ _ _ _ kept c.first_place-place.ensures c.if-high-place.true) in
+pub returns-in_err-unless : goal.returns-in_err-unless
+returns-in_err-unless c =
+    let h = as_hold c.args.hold.now in
+    let p = as_rows c.args.rows in
+    let kept : Placeable h p c.args.low c.args.high = placeable _ _ _ _ (sym c.in_ok-check_placing.ensures) in
+    let (late, own) = refuses _ _ _ c.in_err-unless.ensures in
+    let told = path_told h p c.args.low c.args.high
+    (refusal_told _ _ c.from_residual-in_err-unless.ensures.1
+    ∙ rw own (found_late h p c.args.low c.args.high kept c.first_place-found.ensures (leb-false _ _ late))) in
     record { answer = told.0; path = told.1 }
 
 pub returns : goal.returns
 returns c =
-    let a = c.args in
-    let kept : Placeable (as_hold a.hold) (placed_rows a.starts.now a.begins.now a.ends.now) a.low a.high =
-    placeable _ _ _ _ (sym c.placing_refusal-number.ensures ∙ c.if-number-ne0.false) in
-    let told =
-    path_told (as_hold a.hold) (placed_rows a.starts.now a.begins.now a.ends.now) a.low a.high
-    (c.accepted.ensures ∙ found_in_time _ _ _ _ kept c.first_place-place.ensures c.if-high-place.false) in
+    let h = as_hold c.args.hold.now in
+    let p = as_rows c.args.rows in
+    let kept : Placeable h p c.args.low c.args.high = placeable _ _ _ _ (sym c.in_ok-check_placing.ensures) in
+    let told = path_told h p c.args.low c.args.high
+    (found_in_time h p c.args.low c.args.high kept c.first_place-found.ensures (leb-true _ _ (passes _ _ c.in_ok-unless.ensures))) in
     record { answer = told.0; path = told.1 }

@@ -4,7 +4,6 @@ use mathlib.Core.List.{List}
 use mathlib.Core.Path.{◌≡◌, subst}
 use native.Mathlib.Numerals.{add-one}
 use native.Mathlib.Omega.{arith}
-use borrow.Author.Rules.{rules}
 use Rattle.rules.specs.Count.{entry}
 use Rattle.rules.proofs.Count.{below_suc}
 use Rattle.path.specs.Values.{LeastBehind}
@@ -29,13 +28,13 @@ module _ (low ahead : ℕ) (ends begins : List ℕ) where
   all {start = start} e r = subst (λ n. LeastBehind n low ahead ends begins start) e r
 
 pub loop-b-init : goal.loop-b-init
-loop-b-init c = (search rules, none _ _ _ _)
+loop-b-init c = none _ _ _ _
 
 pub overflow_add-ahead : goal.overflow_add-ahead
-overflow_add-ahead c = omega (arith, c.requires.0, c.requires.2 c.loop-b.b c.loop-b-test.true)
+overflow_add-ahead c = omega (arith, c.requires.fits.0, c.requires.fits.1 c.loop-b.b c.loop-b-test.true)
 
 pub loop-b-preserved : goal.loop-b-preserved
-loop-b-preserved c = (search rules, one_more _ _ _ _ _ c.loop-b.invariant.1 c.later-start.ensures)
+loop-b-preserved c = one_more _ _ _ _ _ c.loop-b.invariant c.later-start.ensures
 
 pub returns : goal.returns
-returns c = let inv = c.loop-b.invariant in all _ _ _ _ (omega (arith, inv.0)) inv.1
+returns c = all _ _ _ _ (omega (arith, c.loop-b.auto)) c.loop-b.invariant
