@@ -32,10 +32,9 @@ impl TrainClass {
     pub fn practice_rate(self) -> u16
         ensures { result ≡ practice_rate self.0 }
     {
-        let number = usize::from(self.0);
-        if number < 3 {
-            return PRACTICE_RATES[number];
-        }
-        0
+        PRACTICE_RATES
+            .get(usize::from(self.0))
+            .copied()
+            .unwrap_or(0)
     }
 }
