@@ -1,7 +1,7 @@
 -- What the run calls answer and leave in the buffers, refused and accepted. Assumes nothing.
 use Prim.Native.Nat.{ℕ, ◌≤◌, ◌<◌, min}
-use mathlib.Core.Bool.{Bool, false, cond}
-use mathlib.Core.List.{List, [], ◌∷◌, ◌++◌}
+use mathlib.Core.Bool.{cond}
+use mathlib.Core.List.{List, [], ◌∷◌}
 use mathlib.Core.Path.{◌≡◌, refl, sym, ◌∙◌, subst}
 use native.Mathlib.Decide.{dec_lt}
 use native.Mathlib.Omega.{arith}
@@ -12,10 +12,10 @@ use Rattle.rules.specs.File.{point_count}
 use Rattle.rules.specs.Line.{Line, Train, line_of, train_of}
 use Rattle.rules.specs.Run.{run_row}
 use Rattle.rules.specs.Time.{arrivals, run_times, FastestRun}
-use Rattle.rules.specs.Refusal.{rule, refusal, rules_on, buffers_long}
+use Rattle.rules.specs.Refusal.{Rule, rule, refusal, rules_on, buffers_long}
 use Rattle.rules.specs.Calls.{written, train_refusal, run_refusal, speeds_after, times_after}
 use Rattle.rules.specs.Admitted.{Admitted}
-use Rattle.rules.proofs.Refusal.{refusal-none, refusal_cons, append-refused, append-kept, append-accepted}
+use Rattle.rules.proofs.Refusal.{refusal-none, refusal_cons, append-refused, append-kept}
 use Rattle.rules.proofs.Accepted.{on_positive, on_kept, run_refused, run_by_buffers, train-admitted}
 use Rattle.rules.proofs.Calls.{lent_written, lent_kept, run_leaves}
 use Rattle.rules.proofs.Time.{fastest}
@@ -23,52 +23,65 @@ use Rattle.run.specs.Calls.{run_refusal_on, speeds_on, times_on}
 use Rattle.rules.proofs.Written.{row_taken}
 
 module _ (l : Line) (t : Train) where
-  -- 11 comes behind the file's rules from 3 on
-  pub rules_first : {r : ℕ} (kept : Bool) → r ≡ refusal (rules_on l t) → (r ≡ 0 → ⊥) → r ≡ refusal (rules_on l t ++ (rule 11 kept ∷ []))
-  rules_first kept e h = e ∙ sym (append-refused (rules_on l t) (rule 11 kept ∷ []) (on_positive l t) (λ z. h (e ∙ z)))
-
-  pub room_then : (kept : Bool) → refusal (rules_on l t) ≡ 0 → refusal (rules_on l t ++ (rule 11 kept ∷ [])) ≡ cond kept 0 11
-  room_then kept z = append-kept (rules_on l t) (rule 11 kept ∷ []) (on_positive l t) z ∙ refusal_cons 11 kept [] ∙ rw refusal-none
-
-  pub short_refused : {r : ℕ} → r ≡ refusal (rules_on l t ++ (rule 11 false ∷ [])) → r ≡ 0 → ⊥
-  short_refused {r} e z =
-      let kept = (append-accepted (rules_on l t) (rule 11 false ∷ []) (on_positive l t) (sym e ∙ z)).0 in
-      let eleven : r ≡ 11 = e ∙ room_then false kept in
-      omega arith
-
   module _ (ns nt : ℕ) where
+    buffers_rule : Rule
+    buffers_rule = rule 11 (buffers_long l ns nt)
+
+    -- 11 comes behind the file's rules from 3 on
     pub refused_on : {r : ℕ} → r ≡ refusal (rules_on l t) → (r ≡ 0 → ⊥) → r ≡ run_refusal_on l t ns nt
-    unfolding run_refusal_on
-    refused_on = rules_first (buffers_long l ns nt)
+    unfolding run_refusal_on buffers_rule
+    refused_on e h = e ∙ sym (append-refused (rules_on l t) (buffers_rule ∷ []) (on_positive l t) (λ z. h (e ∙ z)))
 
     pub by_buffers : refusal (rules_on l t) ≡ 0 → run_refusal_on l t ns nt ≡ cond (buffers_long l ns nt) 0 11
-    unfolding run_refusal_on
-    by_buffers = room_then (buffers_long l ns nt)
+    unfolding run_refusal_on buffers_rule
+    by_buffers z = append-kept (rules_on l t) (buffers_rule ∷ []) (on_positive l t) z ∙ refusal_cons 11 (buffers_long l ns nt) [] ∙ rw refusal-none
 
-    pub short_buffers : {r : ℕ} → r ≡ refusal (rules_on l t ++ (rule 11 false ∷ [])) → min ns nt < l.points → r ≡ run_refusal_on l t ns nt
-    unfolding run_refusal_on buffers_long ◌and◌
-    short_buffers {r} e h = go (dec_lt ns l.points)
-      where
-        go : Dec (ns < l.points) → r ≡ run_refusal_on l t ns nt
-        go (yes g) = e ∙ rw (lt-leb l.points ns g)
-        go (no g) = e ∙ rw (le-leb l.points ns (omega arith), lt-leb l.points nt (omega arith))
-
-    pub long_enough : refusal (rules_on l t) ≡ 0 → l.points ≤ ns → l.points ≤ nt → 0 ≡ run_refusal_on l t ns nt
+    short_buffers : refusal (rules_on l t) ≡ 0 → min ns nt < l.points → 11 ≡ run_refusal_on l t ns nt
     unfolding buffers_long ◌and◌
-    long_enough z g h = sym (by_buffers z ∙ rw (le-leb l.points ns g, le-leb l.points nt h))
+    short_buffers z h = go (dec_lt ns l.points)
+      where
+        go : Dec (ns < l.points) → 11 ≡ run_refusal_on l t ns nt
+        go (yes g) = sym (by_buffers z ∙ rw (lt-leb l.points ns g))
+        go (no g) = sym (by_buffers z ∙ rw (le-leb l.points ns (omega arith), lt-leb l.points nt (omega arith)))
 
+    long_buffers : refusal (rules_on l t) ≡ 0 → l.points ≤ min ns nt → 0 ≡ run_refusal_on l t ns nt
+    unfolding buffers_long ◌and◌
+    long_buffers z h = sym (by_buffers z ∙ rw (le-leb l.points ns (omega arith), le-leb l.points nt (omega arith)))
+
+  -- the answer and the two buffers of a call that met these, whose number is r
   module _ (speeds times : List ℕ) where
-    pub buffers_kept : {r : ℕ} → r ≡ run_refusal_on l t (length speeds) (length times) → (r ≡ 0 → ⊥) → (speeds ≡ speeds_on l t speeds times) ×
-        (times ≡ times_on l t speeds times)
-    unfolding speeds_on times_on
-    buffers_kept e h = (sym (lent_kept _ speeds (λ z. h (e ∙ z))), sym (lent_kept _ times (λ z. h (e ∙ z))))
+    pub record Answered (r : ℕ) (speeds' times' : List ℕ) : Type 0 where
+      pub number : r ≡ run_refusal_on l t (length speeds) (length times)
+      pub speeds_left : speeds' ≡ speeds_on l t speeds times
+      pub times_left : times' ≡ times_on l t speeds times
 
-    pub buffers_written :
-        {speeds' times' : List ℕ} → 0 ≡ run_refusal_on l t (length speeds) (length times) → speeds' ≡ written speeds 0 (run_row l t) → times' ≡
-        written times 0 (run_times l t) →
-        (speeds' ≡ speeds_on l t speeds times) × (times' ≡ times_on l t speeds times)
+    kept : {r : ℕ} → r ≡ run_refusal_on l t (length speeds) (length times) → (r ≡ 0 → ⊥) → Answered r speeds times
     unfolding speeds_on times_on
-    buffers_written e p q = rw (← e) (p ∙ sym (lent_written _ speeds), q ∙ sym (lent_written _ times))
+    kept e h =
+        record {
+          number = e;
+          speeds_left = sym (lent_kept _ speeds (λ z. h (e ∙ z)));
+          times_left = sym (lent_kept _ times (λ z. h (e ∙ z)));
+        }
+
+    -- by the file's rules, and by 11
+    pub refused : {r : ℕ} → r ≡ refusal (rules_on l t) → (r ≡ 0 → ⊥) → Answered r speeds times
+    refused e h = kept (refused_on (length speeds) (length times) e h) h
+
+    pub too_short : refusal (rules_on l t) ≡ 0 → min (length speeds) (length times) < l.points → Answered 11 speeds times
+    too_short z h = kept (short_buffers (length speeds) (length times) z h) (λ z. omega arith)
+
+    pub run_written :
+        {speeds' times' : List ℕ} → refusal (rules_on l t) ≡ 0 → l.points ≤ min (length speeds) (length times) →
+        speeds' ≡ written speeds 0 (run_row l t) → times' ≡ written times 0 (run_times l t) → Answered 0 speeds' times'
+    unfolding speeds_on times_on
+    run_written z h p q =
+        let e = long_buffers (length speeds) (length times) z h in
+        record {
+          number = e;
+          speeds_left = rw (← e) (p ∙ sym (lent_written _ speeds));
+          times_left = rw (← e) (q ∙ sym (lent_written _ times));
+        }
 
   -- the first P entries are the run and its arrivals
   pub first-points : Admitted l t → (speeds times : List ℕ) {speeds' times' : List ℕ} → speeds' ≡ written speeds 0 (run_row l t) → times' ≡

@@ -1,5 +1,5 @@
 -- The run by its two sweeps: a buffer that begins with the forward row and is swept backward begins with the run. Assumes nothing.
-use Prim.Native.Nat.{ℕ, zero, suc, ◌+◌, ◌-◌, ◌≤◌, ◌<◌}
+use Prim.Native.Nat.{ℕ, zero, suc, ◌+◌, ◌-◌, ◌≤◌, ◌<◌, min}
 use mathlib.Core.List.{List}
 use mathlib.Core.Path.{◌≡◌, sym, ap, ◌∙◌}
 use native.Mathlib.Nat.{le_trans}
@@ -11,6 +11,7 @@ use Rattle.rules.specs.Admitted.{Admitted}
 use Rattle.rules.specs.Calls.{written}
 use Rattle.rules.proofs.Count.{length-row, entry_row}
 use Rattle.rules.proofs.Loops.{row_agree}
+use Rattle.rules.proofs.Step.{loss_most}
 use Rattle.rules.proofs.Cap.{cap-most}
 use Rattle.rules.proofs.Run.{forward-cap, length_run}
 use Rattle.rules.proofs.Written.{written_entries, written_over}
@@ -25,6 +26,11 @@ module _ (tops others : ℕ → ℕ) (loss n : ℕ) (same : (k : ℕ) → k < n 
   pub backward_same : (i : ℕ) → i < n → backward_sweep tops loss n i ≡ backward_sweep others loss n i
   unfolding backward_sweep
   backward_same i h = before_same (n - suc i) i (omega arith)
+
+-- an admitted train's braking loss has 32 bits
+pub loss_narrow :
+    (l : Line) (t : Train) {loss narrowed : ℕ} → Admitted l t → loss ≡ braking_loss l t → narrowed ≡ min loss 4294967295 → narrowed ≡ braking_loss l t
+loss_narrow l t a e f = omega (arith, loss_most l t a)
 
 -- s₀ begins with the forward row
 module _ (l : Line) (t : Train) (s₀ : List ℕ) (swept : (k : ℕ) → k < l.points → entry s₀ k ≡ forward l t k) where

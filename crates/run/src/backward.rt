@@ -12,11 +12,8 @@ pub(crate) fn write_backward(points: usize, loss: u32, speeds: &mut [u32])
     requires by_index { (k : ℕ) → k < points → entry speeds.old k ≤ 900000000 }
     ensures { speeds.new ≡ written speeds.old 0 (row (backward_sweep (entry speeds.old) loss points) points) }
 {
-    let mut i = points - 1;
-    while 0 < i {
-        let most = SquaredSpeed(speeds[i] + loss);
-        i -= 1;
-        let kept = SquaredSpeed(speeds[i]).at_most(most);
-        speeds[i] = kept.0;
+    for i in (0..points - 1).rev() {
+        let most = SquaredSpeed(speeds[i + 1] + loss);
+        speeds[i] = SquaredSpeed(speeds[i]).at_most(most).0;
     }
 }

@@ -5,22 +5,23 @@ mod backward;
 mod kept;
 mod times;
 
-ghost use Rattle.std.specs.Prelude.{false, [], ◌∷◌, ◌++◌, ◌≡◌, ℕ, ◌≤◌, ◌<◌, length, take};
+ghost use Rattle.std.specs.Prelude.{◌≡◌, ℕ, ◌≤◌, ◌<◌, length, take};
+ghost use Rattle.refusals.specs.Number.{refused_by};
 ghost use Rattle.rules.specs.Admitted.{Admitted};
 ghost use Rattle.rules.specs.Calls.{written, run_refusal, speeds_after, times_after};
 ghost use Rattle.rules.specs.Count.{entry};
 ghost use Rattle.rules.specs.File.{point_count};
 ghost use Rattle.rules.specs.Line.{line_of, train_of};
-ghost use Rattle.rules.specs.Refusal.{rule, refusal, rules_on};
 ghost use Rattle.rules.specs.Run.{forward, run_row};
 ghost use Rattle.rules.specs.Time.{run_times, FastestRun};
 ghost use Rattle.values.specs.Values.{as_line, as_train};
 ghost use Rattle.run.specs.Calls.{run_refusal_on, speeds_on, times_on};
 
 use backward::write_backward;
+use refusals::Refusal;
 use times::write_times;
 use values::{Line, Train};
-use widths::{least, narrow, size};
+use widths::narrow;
 
 // Makes the run of the forward row that `speeds` begins with, and writes its arrivals.
 fn write_run(line: Line, train: Train, speeds: &mut [u32], times: &mut [u64])
@@ -31,54 +32,43 @@ fn write_run(line: Line, train: Train, speeds: &mut [u32], times: &mut [u64])
         × (times.new ≡ written times.old 0 (run_times (as_line line) (as_train train))) }
 {
     let loss = narrow(values::braking_loss(line, train));
-    write_backward(size(line.points), loss, speeds);
+    write_backward(usize::from(line.points), loss, speeds);
     write_times(line, train, speeds, times);
 }
 
-// The number where a buffer is too short: the file's rules from 3 on are checked before 11.
-fn short_refusal(line: Line, train: Train) -> u64
-    ensures { result ≡ refusal (rules_on (as_line line) (as_train train) ++ (rule 11 false ∷ [])) }
-{
-    let number = judging::refusal_on(line, train);
-    if number != 0 {
-        return number;
-    }
-    11
-}
-
 // The run of a decoded train on a decoded line: the file's rules from 3 on and 11, whatever the two hold. A refusal leaves both buffers as they came.
-pub fn run_train(line: Line, train: Train, speeds: &mut [u32], times: &mut [u64]) -> u64
-    ensures number { result ≡ run_refusal_on (as_line line) (as_train train) (length speeds.old) (length times.old) }
+pub fn run_train(
+    line: Line,
+    train: Train,
+    speeds: &mut [u32],
+    times: &mut [u64],
+) -> Result<(), Refusal>
+    ensures refusal { refused_by result ≡ run_refusal_on (as_line line) (as_train train) (length speeds.old) (length times.old) }
     ensures speeds { speeds.new ≡ speeds_on (as_line line) (as_train train) speeds.old times.old }
     ensures times { times.new ≡ times_on (as_line line) (as_train train) speeds.old times.old }
-    ensures fastest { result ≡ 0 →
+    ensures fastest { refused_by result ≡ 0 →
         FastestRun (as_line line) (as_train train) (take line.points speeds.new) (take line.points times.new) }
 {
-    if least(speeds.len(), times.len()) < size(line.points) {
-        return short_refusal(line, train);
+    if speeds.len().min(times.len()) < usize::from(line.points) {
+        judging::check_on(line, train)?;
+        return Err(Refusal::TooLittleRoom);
     }
     // The point behind the last: the sweep takes in the whole line.
-    let number = forward::sweep_to(line, train, line.points, speeds);
-    if number != 0 {
-        return number;
-    }
+    forward::sweep_to(line, train, line.points, speeds)?;
     write_run(line, train, speeds, times);
-    0
+    Ok(())
 }
 
 // The run call: the file's rules, 10 and 11 for train k of a file. Of an accepted call the first P entries of `speeds` are the run, those of `times` its
 // arrivals; no permitted rival reaches a point before. A refusal leaves both buffers as they came.
-pub fn run(file: &[u8], k: u64, speeds: &mut [u32], times: &mut [u64]) -> u64
-    ensures number { result ≡ run_refusal file.now k (length speeds.old) (length times.old) }
+pub fn run(file: &[u8], k: u64, speeds: &mut [u32], times: &mut [u64]) -> Result<(), Refusal>
+    ensures refusal { refused_by result ≡ run_refusal file.now k (length speeds.old) (length times.old) }
     ensures speeds { speeds.new ≡ speeds_after file.now k speeds.old times.old }
     ensures times { times.new ≡ times_after file.now k speeds.old times.old }
-    ensures fastest { result ≡ 0 →
+    ensures fastest { refused_by result ≡ 0 →
         FastestRun (line_of file.now) (train_of file.now k) (take (point_count file.now) speeds.new)
         (take (point_count file.now) times.new) }
 {
-    let opened = line::open_train(file, k);
-    if opened.number != 0 {
-        return opened.number;
-    }
+    let opened = line::open_train(file, k)?;
     run_train(opened.line, opened.train, speeds, times)
 }

@@ -1,48 +1,62 @@
 // The running times: cell times and dwells added up from point to point.
 ghost use Rattle.std.specs.Prelude.{◌≡◌, ℕ, ◌+◌, ◌*◌, ◌<◌, ◌≤◌, length};
+ghost use Rattle.std.specs.Option.{ForSome};
 ghost use Rattle.rules.specs.Admitted.{Admitted};
 ghost use Rattle.rules.specs.Calls.{written};
 ghost use Rattle.rules.specs.Count.{entry, ceil_div};
 ghost use Rattle.rules.specs.Run.{run_row};
 ghost use Rattle.rules.specs.Time.{cell_time, run_times};
 ghost use Rattle.values.specs.Values.{as_line, as_train};
-ghost use Rattle.run.specs.Times.{IsCellTime};
 
-use crate::kept::root_after;
-use roots::root;
+use crate::kept::{KeptRoots, Rooted};
 use stops::{dwell_at, first_stop, stop_ahead};
 use values::{Line, Speed, SquaredSpeed, Train};
-use widths::{size, wide64};
 
-// A cell's time in microseconds, and the sum of its two roots that gives it. A sum of 0 stands for no cell.
+// A cell's time in microseconds, and the sum of its two roots that gives it.
 #[derive(Clone, Copy)]
-pub struct CellTime {
-    pub sum: u32,
-    pub time: u64,
+struct CellTime {
+    sum: u32,
+    time: u64,
 }
 
 // The time of a cell with this sum of roots, over a step in m.
-fn cell_time(step: u64, sum: u32) -> u64
-    requires { (step ≤ 100) × (sum ≤ 131070) × (0 < sum) }
+fn cell_time(step: u16, sum: u32) -> u64
+    requires { 0 < sum }
     ensures { result ≡ ceil_div (720000000 * step) sum }
 {
-    let wide = sum as u64;
-    (720000000 * step + (wide - 1)) / wide
+    (720000000 * u64::from(step)).div_ceil(u64::from(sum))
 }
 
-// The cell between roots p and q, which is the one before where the sum is the same.
-fn cell_after(step: u64, before: CellTime, p: Speed, q: Speed) -> CellTime
-    requires step_bound { (step ≤ 100) × (p.0 ≤ 65535) × (q.0 ≤ 65535) × (0 < p.0 + q.0) }
-    requires cell_time { IsCellTime step before }
-    ensures { (result.time ≡ cell_time step p.0 q.0) × IsCellTime step result }
-{
-    let sum = p.0 + q.0;
-    if sum == before.sum {
-        return before;
+// The cells of a line, of a step in m. The last one's time is kept, since many cells have the sum of the one before.
+#[derive(Drop)]
+struct Cells {
+    step: u16,
+    last: Option<CellTime>,
+    ghost timed: { ForSome last (λ c. c.time ≡ ceil_div (720000000 * step) c.sum) },
+}
+
+impl Cells {
+    fn of(step: u16) -> Cells
+        ensures { result.step ≡ step }
+    {
+        Cells { step, last: None }
     }
-    CellTime {
-        sum,
-        time: cell_time(step, sum),
+
+    // The time of the cell between roots p and q.
+    fn time_between(&mut self, p: Speed, q: Speed) -> u64
+        requires { (p.0 ≤ 65535) × (q.0 ≤ 65535) × (0 < p.0 + q.0) }
+        ensures time { result ≡ cell_time self.old.step p.0 q.0 }
+        ensures step { self.new.step ≡ self.old.step }
+    {
+        let sum = p.0 + q.0;
+        if let Some(cell) = self.last
+            && cell.sum == sum
+        {
+            return cell.time;
+        }
+        let time = cell_time(self.step, sum);
+        self.last = Some(CellTime { sum, time });
+        time
     }
 }
 
@@ -53,25 +67,26 @@ pub(crate) fn write_times(line: Line, train: Train, speeds: &[u32], times: &mut 
     requires by_index { (k : ℕ) → k < line.points → entry speeds.now k ≡ entry (run_row (as_line line) (as_train train)) k }
     ensures { times.new ≡ written times.old 0 (run_times (as_line line) (as_train train)) }
 {
-    let stop_points = train.stops;
+    // Copied before they are lent: to lend a field of the train has the compiler copy most of it.
+    let stops = train.stops;
     let dwells = train.dwells;
-    let last = size(line.points) - 1;
-    let mut i = 0;
-    let mut stop = first_stop(&stop_points, train.stop_count);
+    let stops = &stops[..train.stop_count];
+    let dwells = &dwells[..train.stop_count];
+    let last = usize::from(line.points) - 1;
+    let mut stop = first_stop(stops);
     let mut time = 0;
-    let mut cell = CellTime { sum: 0, time: 0 };
-    let mut kept = [0u16; 1024];
-    let mut here = root(SquaredSpeed(speeds[0]));
-    while i < last {
+    let mut cells = Cells::of(line.step);
+    let mut kept = KeptRoots::none();
+    let mut here = Rooted::of(SquaredSpeed(speeds[0]));
+    // By number: a zip of the arrivals and the pairs of speeds would need the point's number for the stops all the same.
+    for i in 0..last {
         times[i] = time;
-        stop = stop_ahead(&stop_points, train.stop_count, stop, i);
-        let dwell = dwell_at(&dwells, stop, i);
-        let ahead = SquaredSpeed(speeds[i + 1]);
-        let there = root_after(&mut kept, SquaredSpeed(speeds[i]), here, ahead);
-        cell = cell_after(wide64(line.step), cell, here.speed, there.speed);
-        time = time + dwell + cell.time;
+        stop = stop_ahead(stops, stop, i);
+        let there = kept.root_after(here, SquaredSpeed(speeds[i + 1]));
+        let dwell = dwell_at(dwells, stop, i);
+        let cell = cells.time_between(here.root.speed, there.root.speed);
+        time += dwell + cell;
         here = there;
-        i += 1;
     }
-    times[i] = time;
+    times[last] = time;
 }
