@@ -12,17 +12,29 @@ use Rattle.rules.specs.Hold.{Hold, empty_hold, approach_point, hold_begin, hold_
 use Rattle.rules.specs.Line.{Line, Train}
 use Rattle.rules.specs.Run.{braking_loss, train_cells, run_row}
 use Rattle.rules.specs.Time.{dwell, arrival, departure, run_times}
-use Rattle.rules.proofs.Count.{rises_far}
+use Rattle.rules.proofs.Count.{rises_far, length-row}
+use Rattle.values.specs.declared.decoded.Line as decoded_line
+use Rattle.values.specs.declared.decoded.Train as decoded_train
+use Rattle.values.specs.Values.{as_line, as_train}
 use Rattle.rules.proofs.Fill.{Filled, fill_none, fill_up, fill_padded}
 use Rattle.rules.proofs.Hold.{approach_is, approach_slow, approach_agree, clears-within}
 use Rattle.rules.proofs.Run.{run_is}
 use Rattle.rules.proofs.Step.{loss_most}
 use Rattle.rules.proofs.Time.{departure_is, departs_before, arrival-most, entry_times}
+use Rattle.std.specs.Prelude.{Option}
 use Rattle.stops.specs.declared.Stop.{Stop}
 use Rattle.stops.specs.Stops.{Behind, NextStop}
 
+-- an admitted line's blocks have room in a hold record
+pub few_blocks : (line : decoded_line.Line) (train : decoded_train.Train) → Admitted (as_line line) (as_train train) → line.block_count ≤ 32
+few_blocks line train a = omega (arith, a.rule3_line.blocks-most, length-row (entry line.block_starts) line.block_count)
+
+-- a stop that is behind a point is behind a later one
+pub behind_at : {stops : List ℕ} {stop : Option Stop} {i j : ℕ} → Behind stops stop i → i ≤ j → Behind stops stop j
+behind_at b h = record { at = b.at; there = b.there; passed = λ k l. omega (arith, b.passed k l) }
+
 -- the record after the first j blocks
-pub record Holds (l : Line) (t : Train) (h : Hold) (point : ℕ) (stop : Stop) (j : ℕ) : Type 0 where
+pub record Holds (l : Line) (t : Train) (h : Hold) (point : ℕ) (stop : Option Stop) (j : ℕ) : Type 0 where
   pub count : h.blocks ≡ length l.block_starts
   pub blocks : j ≤ length l.block_starts
   pub before : (b : ℕ) → ((k : ℕ) → k < j → entry l.block_starts k ≤ b) → point ≤ b
@@ -44,7 +56,7 @@ zeros k h = get_or-replicate {A = ℕ} 32 k 0 0 h
 
 module _ (l : Line) (t : Train) (a : Admitted l t) where
   pub holds_first :
-      {h : Hold} {n : ℕ} {stop : Stop} → h ≡ record { blocks = n; begins = empty_hold.begins; ends = empty_hold.ends } → n ≡ length l.block_starts →
+      {h : Hold} {n : ℕ} {stop : Option Stop} → h ≡ record { blocks = n; begins = empty_hold.begins; ends = empty_hold.ends } → n ≡ length l.block_starts →
       Behind t.stops stop 0 → Holds l t h 0 stop 0
   holds_first {h} {n} e m b =
       record {
@@ -57,7 +69,7 @@ module _ (l : Line) (t : Train) (a : Admitted l t) where
         ends = rw (ap (λ (h : Hold). h.ends) e) (fill_none _ 0 _);
       }
 
-  pub holds_all : {h : Hold} {point : ℕ} {stop : Stop} {j : ℕ} → Holds l t h point stop j → length l.block_starts ≤ j → h ≡ hold_of l t
+  pub holds_all : {h : Hold} {point : ℕ} {stop : Option Stop} {j : ℕ} → Holds l t h point stop j → length l.block_starts ≤ j → h ≡ hold_of l t
   unfolding hold_with
   holds_all {h} {point} {stop} {j} r m =
       let e : j ≡ length l.block_starts = omega (arith, r.blocks) in
@@ -70,7 +82,7 @@ module _ (l : Line) (t : Train) (a : Admitted l t) where
       rises_far (entry l.block_starts) (length l.block_starts) (λ k h. omega (arith, a.rule6.below k (omega arith), a.rule6.after k h)) k j
       (omega arith) h
 
-  module _ {h : Hold} {point : ℕ} {stop : Stop} {j : ℕ} (r : Holds l t h point stop j) (m : j < length l.block_starts) where
+  module _ {h : Hold} {point : ℕ} {stop : Option Stop} {j : ℕ} (r : Holds l t h point stop j) (m : j < length l.block_starts) where
     -- the block starts and ends on the line
     pub block_on : (entry l.block_starts j < entry l.block_ends j) × (entry l.block_ends j + train_cells l t < l.points)
     block_on = (a.rule6.below j m, clears-within l t a j m)
@@ -147,7 +159,7 @@ module _ (l : Line) (t : Train) (a : Admitted l t) where
 
     -- the record with this block added
     pub holds_on :
-        {p : ℕ} {stop' : Stop} {begin end : ℕ} → p ≡ approach_point (run_row l t) (braking_loss l t) (entry l.block_starts j) → NextStop t.stops stop' p →
+        {p : ℕ} {stop' : Option Stop} {begin end : ℕ} → p ≡ approach_point (run_row l t) (braking_loss l t) (entry l.block_starts j) → NextStop t.stops stop' p →
         begin ≡ hold_begin l t (run_row l t) (entry l.block_starts j) → end ≡ hold_end l t (run_row l t) (entry l.block_ends j) →
         Holds l t (record { blocks = h.blocks; begins = set h.begins j begin; ends = set h.ends j end }) p stop' (j + 1)
     holds_on {p} q n b e =

@@ -30,5 +30,8 @@ module _ {speeds : List ℕ} {loss from b : ℕ} where
     near_there braked h e =
         (approach_at speeds loss b i n.before n.slow (λ k m l. fast_on speeds loss b braked (leb-false _ _ e) k (omega arith) l), n.onward)
 
-    pub near_end : b ≤ i → (i ≡ approach_point speeds loss b) × (from ≤ i)
-    near_end h = (approach_at speeds loss b i n.before n.slow (λ k m l. absurd (omega arith)), n.onward)
+    pub near_end : b ≤ i → (b ≡ approach_point speeds loss b) × (from ≤ b)
+    near_end h =
+        let i_is : i ≡ b = omega (arith, n.before) in
+        let here : i ≡ approach_point speeds loss b = approach_at speeds loss b i n.before n.slow (λ k m l. absurd (omega arith)) in
+        (rw i_is at here, omega (arith, n.onward))

@@ -10,7 +10,7 @@ fn brakes_within(speed: SquaredSpeed, loss: u64, left: usize) -> bool
     requires { (loss ≤ 15552000) × (left ≤ 4096) }
     ensures { result ≡ leb speed.0 (loss * left) }
 {
-    speed.0 as u64 <= loss * left as u64
+    u64::from(speed.0) <= loss * left as u64
 }
 
 // The approach point of a block from b, where `from` is one for an earlier block or 0.
@@ -20,14 +20,10 @@ pub(crate) fn approach_point(speeds: &[u32], loss: u64, from: usize, b: usize) -
     requires by_index { (k : ℕ) → k < b → entry speeds.now k ≤ entry speeds.now (suc k) + loss }
     ensures { (result ≡ approach_point speeds.now loss b) × (from ≤ result) }
 {
-    let mut i = from;
-    while i < b {
-        let ahead = SquaredSpeed(speeds[i + 1]);
-        if brakes_within(ahead, loss, b - (i + 1)) {
-            i += 1;
-        } else {
+    for i in from..b {
+        if !brakes_within(SquaredSpeed(speeds[i + 1]), loss, b - (i + 1)) {
             return i;
         }
     }
-    i
+    b
 }

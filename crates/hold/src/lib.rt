@@ -17,23 +17,15 @@ ghost use Rattle.hold.specs.Calls.{as_hold_answer, held_on};
 
 use approach::approach_point;
 use holds::HoldRecord;
+use refusals::Refusal;
 use stops::{dwell_at, first_stop, stop_ahead};
 use values::{Line, Train};
-use widths::size;
-
-// The number 0 and the hold record, or the number of refusal and a record of no blocks.
-#[repr(C)]
-#[derive(Clone, Copy)]
-pub struct HoldAnswer {
-    pub number: u64,
-    pub hold: HoldRecord,
-}
 
 // What a hold adds to the arrival that clears its block, in microseconds: release, set-up and 5 seconds of communication.
 fn clearing_time(line: Line) -> u64
     ensures { (result ≡ 100000 * line.release + 100000 * line.set_up + 5000000) × (result < 13112000001) }
 {
-    100000 * line.release as u64 + 100000 * line.set_up as u64 + 5000000
+    100000 * (u64::from(line.release) + u64::from(line.set_up)) + 5000000
 }
 
 // The hold record of the run that the buffers hold.
@@ -47,57 +39,54 @@ fn hold_record(line: Line, train: Train, speeds: &[u32], times: &[u64]) -> HoldR
     let loss = values::braking_loss(line, train);
     let cells = values::train_cells(line, train);
     let clearing = clearing_time(line);
+    // Copied before they are lent or indexed: to lend a field of the line or the train has the compiler copy most of it.
     let starts = line.block_starts;
     let ends = line.block_ends;
-    let stop_points = train.stops;
+    let stops = train.stops;
     let dwells = train.dwells;
+    let stops = &stops[..train.stop_count];
+    let dwells = &dwells[..train.stop_count];
     let mut hold = HoldRecord::NONE;
     hold.blocks = line.block_count as u64;
     let mut point = 0;
-    let mut stop = first_stop(&stop_points, train.stop_count);
-    let mut j = 0;
-    while j < line.block_count {
-        point = approach_point(speeds, loss, point, size(starts[j]));
-        stop = stop_ahead(&stop_points, train.stop_count, stop, point);
-        let dwell = dwell_at(&dwells, stop, point);
+    let mut stop = first_stop(stops);
+    // By number: four arrays have an entry for each block, and a zip of all four is no plainer.
+    for j in 0..line.block_count {
+        point = approach_point(speeds, loss, point, usize::from(starts[j]));
+        stop = stop_ahead(stops, stop, point);
+        let dwell = dwell_at(dwells, stop, point);
         hold.begins[j] = times[point] + dwell;
-        hold.ends[j] = times[size(ends[j]) + cells] + clearing;
-        j += 1;
+        hold.ends[j] = times[usize::from(ends[j]) + cells] + clearing;
     }
     hold
 }
 
 // The hold of a decoded train on a decoded line: the file's rules from 3 on and 11, whatever the two hold. The buffers end as after `run::run_train`.
-pub fn hold_train(line: Line, train: Train, speeds: &mut [u32], times: &mut [u64]) -> HoldAnswer
+pub fn hold_train(
+    line: Line,
+    train: Train,
+    speeds: &mut [u32],
+    times: &mut [u64],
+) -> Result<HoldRecord, Refusal>
     ensures answer { as_hold_answer result ≡ held_on (as_line line) (as_train train) (length speeds.old) (length times.old) }
     ensures speeds { speeds.new ≡ speeds_on (as_line line) (as_train train) speeds.old times.old }
     ensures times { times.new ≡ times_on (as_line line) (as_train train) speeds.old times.old }
 {
-    let number = run::run_train(line, train, speeds, times);
-    if number != 0 {
-        return HoldAnswer {
-            number,
-            hold: HoldRecord::NONE,
-        };
-    }
-    HoldAnswer {
-        number,
-        hold: hold_record(line, train, speeds, times),
-    }
+    run::run_train(line, train, speeds, times)?;
+    Ok(hold_record(line, train, speeds, times))
 }
 
 // The hold call: the file's rules, 10 and 11 for train k of a file. The buffers end as after the run call.
-pub fn hold(file: &[u8], k: u64, speeds: &mut [u32], times: &mut [u64]) -> HoldAnswer
+pub fn hold(
+    file: &[u8],
+    k: u64,
+    speeds: &mut [u32],
+    times: &mut [u64],
+) -> Result<HoldRecord, Refusal>
     ensures answer { as_hold_answer result ≡ held file.now k (length speeds.old) (length times.old) }
     ensures speeds { speeds.new ≡ speeds_after file.now k speeds.old times.old }
     ensures times { times.new ≡ times_after file.now k speeds.old times.old }
 {
-    let opened = line::open_train(file, k);
-    if opened.number != 0 {
-        return HoldAnswer {
-            number: opened.number,
-            hold: HoldRecord::NONE,
-        };
-    }
+    let opened = line::open_train(file, k)?;
     hold_train(opened.line, opened.train, speeds, times)
 }

@@ -1,28 +1,28 @@
-use mathlib.Core.Path.{refl}
-use Rattle.line.proofs.Opening.{train-number, train_asked, opened_line, opened-train}
+use Rattle.std.proofs.Common.{sym, refl}
+use Rattle.refusals.proofs.Passing.{numbered}
+use Rattle.line.proofs.Opening.{opened_line, opened-train}
 use Rattle.run.proofs.Answers.{not_run, as_run}
 use Rattle.hold.proofs.Answers.{file_refused, file_held}
 use Rattle.hold.proofs.hold.Goals as goal
 
-pub returns-then-opened-ne0 : goal.returns-then-opened-ne0
-returns-then-opened-ne0 c = let a = c.args in
-    let kept = not_run _ _ a.speeds.now a.times.now (train-number _ _ c.open_train-opened.ensures) c.if-opened-ne0.true in
+pub returns-in_err-opened : goal.returns-in_err-opened
+returns-in_err-opened c =
+    let kept = not_run _ _ c.args.speeds.now c.args.times.now c.in_err-opened.ensures.refusal (numbered _) in
     record {
-      answer = file_refused _ _ a.speeds.now a.times.now kept.0 c.if-opened-ne0.true refl;
+      answer = file_refused _ _ c.args.speeds.now c.args.times.now _ _ c.from_residual.ensures.1 kept.0;
       speeds = kept.1;
       times = kept.2;
     }
 
 pub returns : goal.returns
-returns c = let a = c.args in
-    let o = c.open_train-opened.ensures in
-    let r = c.hold_train.ensures in
-    let z = train_asked _ _ o c.if-opened-ne0.false in
-    let line = opened_line _ _ o c.if-opened-ne0.false in
-    let train = opened-train _ _ o c.if-opened-ne0.false in
-    let all = as_run _ _ z line train a.speeds.now a.times.now refl r.speeds r.times in
+returns c =
+    let ok = sym c.in_ok-opened.ensures.refusal in
+    let line = opened_line _ _ ok c.in_ok-opened.ensures.opened in
+    let train = opened-train _ _ ok c.in_ok-opened.ensures.opened in
+    let held = c.hold_train.ensures in
+    let all = as_run _ _ ok line train c.args.speeds.now c.args.times.now refl held.speeds held.times in
     record {
-      answer = file_held _ _ a.speeds.now a.times.now z line train r.answer;
+      answer = file_held _ _ c.args.speeds.now c.args.times.now ok line train held.answer;
       speeds = all.1;
       times = all.2;
     }

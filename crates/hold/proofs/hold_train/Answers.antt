@@ -1,21 +1,15 @@
-use Rattle.hold.proofs.Answers.{held-refused, held-accepted, run_done}
+use Rattle.std.proofs.Common.{sym}
 use Rattle.values.proofs.Parallel.{decoded_parallel}
-use mathlib.Core.Path.{refl}
-use native.Mathlib.Omega.{arith}
+use Rattle.hold.proofs.Answers.{held-refused, held-accepted, run_done}
 use Rattle.hold.proofs.hold_train.Goals as goal
 
-pub returns-then-number-ne0 : goal.returns-then-number-ne0
-returns-then-number-ne0 c = let r = c.run_train-number.ensures in
-    record {
-      answer = held-refused _ _ _ _ r.number c.if-number-ne0.true refl;
-      speeds = r.speeds;
-      times = r.times;
-    }
+pub returns-in_err-run_train-clause-answer : goal.returns-in_err-run_train-clause-answer
+returns-in_err-run_train-clause-answer c = held-refused _ _ _ _ _ _ c.from_residual.ensures.1 c.in_err-run_train.ensures.refusal
 
 pub hold_record-requires : goal.hold_record-requires
-hold_record-requires c = let a = c.args in
-    let r = c.run_train-number.ensures in
-    let done = run_done _ _ (decoded_parallel a.line a.train) a.speeds.now a.times.now r.number (omega arith) r.speeds r.times in
+hold_record-requires c =
+    let run = c.in_ok-run_train.ensures in
+    let done = run_done _ _ (decoded_parallel c.args.line c.args.train) c.args.speeds.now c.args.times.now (sym run.refusal) run.speeds run.times in
     record {
       admitted = done.0;
       points_in_bounds = done.1;
@@ -23,10 +17,5 @@ hold_record-requires c = let a = c.args in
       by_index_2 = done.3;
     }
 
-pub returns : goal.returns
-returns c = let r = c.run_train-number.ensures in
-    record {
-      answer = held-accepted _ _ _ _ r.number (omega arith) c.hold_record.ensures;
-      speeds = r.speeds;
-      times = r.times;
-    }
+pub returns-clause-answer : goal.returns-clause-answer
+returns-clause-answer c = held-accepted _ _ _ _ (sym c.in_ok-run_train.ensures.refusal) c.hold_record.ensures

@@ -1,5 +1,4 @@
-use mathlib.Core.Path.{sym, ◌∙◌}
-use native.Mathlib.Omega.{arith}
+use Rattle.std.proofs.Common.{sym, ◌∙◌, arith}
 use Rattle.hold.proofs.Nearing.{near_first, near_on, near_there, near_end}
 use Rattle.hold.proofs.approach.approach_point.Goals as goal
 
@@ -10,11 +9,11 @@ pub brakes_within-requires : goal.brakes_within-requires
 brakes_within-requires c = (c.requires.loss_bound.0, omega (arith, c.requires.loss_bound.1))
 
 pub loop-i-preserved : goal.loop-i-preserved
-loop-i-preserved c = let o = c.loop-i in
-    near_on o.invariant (omega arith) (sym c.brakes_within.ensures ∙ c.if-brakes_within.true)
+loop-i-preserved c = near_on c.loop-i.invariant (omega arith) (sym c.brakes_within.ensures ∙ c.if-not-brakes_within.false)
 
-pub returns-else-brakes_within : goal.returns-else-brakes_within
-returns-else-brakes_within c = near_there c.loop-i.invariant c.requires.by_index (omega arith) (sym c.brakes_within.ensures ∙ c.if-brakes_within.false)
+pub returns-then-not-brakes_within : goal.returns-then-not-brakes_within
+returns-then-not-brakes_within c =
+    near_there c.loop-i.invariant c.requires.by_index (omega arith) (sym c.brakes_within.ensures ∙ c.if-not-brakes_within.true)
 
 pub returns : goal.returns
 returns c = near_end c.loop-i.invariant (omega arith)
