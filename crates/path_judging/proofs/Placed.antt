@@ -5,10 +5,10 @@ use mathlib.Core.List.{List}
 use mathlib.Core.Logic.{◌↔◌, ⊎_elim}
 use mathlib.Core.Path.{◌≡◌, refl, ap, ◌∙◌}
 use native.Mathlib.Decide.{dec_lt}
-use native.Mathlib.Nat.{mul-le-mul, mul-le-mul_right, suc-mul, zero-mul, eq-or-lt_of_le, le_of_suc-le-suc}
+use native.Mathlib.Nat.{mul-le-mul_right, suc-mul, zero-mul, eq-or-lt_of_le, le_of_suc-le-suc}
 use native.Mathlib.Omega.{arith}
 use lib.Dec.{leb, ltb}
-use lib.ListN.{length, get_or, take, drop, length-drop}
+use lib.ListN.{length, get_or, drop, length-drop}
 use lib.Seq.{length-take-le, get_or-take, get_or-drop}
 use borrow.Author.Tests.{leb-true, le-leb, ltb-true, lt-ltb}
 use Rattle.rules.specs.Count.{◌and◌, entry}
@@ -23,15 +23,12 @@ use Rattle.sheet_judging.specs.Times.{times_kept}
 use Rattle.path_judging.specs.Rows.{row_of, next_clear, each_clear}
 
 -- where row k of the m rows of n entries lies
-pub row_within : (n m k at : ℕ) → at ≡ k * n → k < m → at + n ≤ m * n
-row_within n m k at e l = omega (arith, e, suc-mul k n, mul-le-mul_right n (let le : suc k ≤ m = omega arith in le))
+row_within : (n m k : ℕ) → k < m → k * n + n ≤ m * n
+row_within n m k l = omega (arith, suc-mul k n, mul-le-mul_right n (let le : suc k ≤ m = omega arith in le))
 
-pub most_entries : (n m : ℕ) → n ≤ 32 → m ≤ 64 → m * n ≤ 2048
-most_entries n m l k = mul-le-mul k l
-
-pub row-length : (n m k at : ℕ) (entries : List ℕ) → at ≡ k * n → k < m → length entries ≡ m * n → length (take n (drop at entries)) ≡ n
-row-length n m k at entries e l long =
-    length-take-le n (drop at entries) (omega (arith, length-drop at entries, row_within n m k at e l, long))
+pub row-length : (n m k : ℕ) (entries : List ℕ) → k < m → length entries ≡ m * n → length (row_of n k entries) ≡ n
+row-length n m k entries l long =
+    length-take-le n (drop (k * n) entries) (omega (arith, length-drop (k * n) entries, row_within n m k l, long))
 
 -- an entry of the slices is an entry of a row
 record EntryOf (n m i : ℕ) : Type 0 where
@@ -50,11 +47,6 @@ entry_of n (suc m) i l = go (dec_lt i (m * n)) (entry_of n m i)
         let e = r g in
         record { row = e.row; block = e.block; row-there = omega (arith, e.row-there); block-there = e.block-there; at = e.at }
     go (no g) r = record { row = m; block = i - m * n; row-there = omega arith; block-there = omega (arith, l, suc-mul m n); at = omega arith }
-
-pub next_row : (n k at : ℕ) → at ≡ k * n → at + n ≡ (k + 1) * n
-next_row n k at e =
-    let up : k + 1 ≡ suc k = omega arith in
-    rw up (omega (arith, e, suc-mul k n))
 
 module _ (n : ℕ) (p : PlacedRows) (begins-rows : length p.begins ≡ length p.starts * n) (ends-rows : length p.ends ≡ length p.starts * n) where
   abbrev m : ℕ
@@ -77,7 +69,7 @@ module _ (n : ℕ) (p : PlacedRows) (begins-rows : length p.begins ≡ length p.
 
   -- an entry of a row is within the slices
   within : (k b : ℕ) → k < m → b < n → k * n + b < length p.ends
-  within k b l c = omega (arith, row_within n m k (k * n) refl l, ends-rows)
+  within k b l c = omega (arith, row_within n m k l, ends-rows)
 
   pub kept-rows : times_kept p.begins p.ends ≡ true → (k : ℕ) → k < m → Rule14 n (get_or hs k empty_hold)
   unfolding times_kept
@@ -109,7 +101,7 @@ module _ (n : ℕ) (p : PlacedRows) (begins-rows : length p.begins ≡ length p.
   next_clear_lem k l =
       let next : k + 1 ≡ suc k = omega arith in
       let means = clear_means (entry p.starts k) (entry p.starts (suc k)) n (row_of n k p.ends) (row_of n (suc k) p.begins)
-      (row-length n m k (k * n) p.ends refl (omega arith) ends-rows) (row-length n m (suc k) (suc k * n) p.begins refl l begins-rows) in
+      (row-length n m k p.ends (omega arith) ends-rows) (row-length n m (suc k) p.begins l begins-rows) in
       rw (next, row_at k (omega arith), row_at (suc k) l) means
 
   -- where no row is empty, rows that are clear of the next are clear of all behind them
