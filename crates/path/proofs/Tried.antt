@@ -105,7 +105,7 @@ module _ (h : Hold) (p : PlacedRows) (low : ℕ) (rows : Rule16Rows h.blocks p) 
 
   module _ (k : ℕ) (l : k < length ts) where
     row_length : (entries : List ℕ) → length entries ≡ length ts * n → length (row_of n k entries) ≡ n
-    row_length entries long = row-length n (length ts) k (k * n) entries refl l long
+    row_length entries long = row-length n (length ts) k entries l long
 
     row_is : get_or hs k empty_hold ≡ record { blocks = n; begins = row_of n k p.begins; ends = row_of n k p.ends }
     row_is = hold_at n (length ts) k (k * n) p.begins p.ends refl l

@@ -22,12 +22,12 @@ pub struct Path {
 // The least start from `low` on that is behind the train ahead in every block.
 fn least_behind(low: u64, ahead: u64, ends: &[u64], begins: &[u64]) -> u64
     requires fits { (ahead ≤ 2 ^ 50) × ((b : ℕ) → b < length ends.now → entry ends.now b ≤ 2 ^ 44) }
-    requires blocks { length ends.now ≤ length begins.now }
+    requires beside { length ends.now ≤ length begins.now }
     ensures { LeastBehind (length ends.now) low ahead ends.now begins.now result }
 {
     let mut start = low;
-    for (b, end) in ends.iter().enumerate() {
-        start = later(start, ahead + *end, begins[b]);
+    for (end, begin) in ends.iter().zip(begins) {
+        start = later(start, ahead + *end, *begin);
     }
     start
 }

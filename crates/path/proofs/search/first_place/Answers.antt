@@ -31,7 +31,7 @@ least_behind-start-requires c =
     let h = as_hold c.args.hold.now in
     let p = as_rows c.args.rows in
     let bounds = bounds_at h p c.args.low c.requires.1 (omega (arith, c.requires.0)) _ c.loop-k-test.true in
-    rw c.row_of-in-loop-k.ensures (record { fits = (bounds.0, bounds.2); blocks = omega (arith, bounds.1, c.requires.0) })
+    rw c.row_of-in-loop-k.ensures (record { fits = (bounds.0, bounds.2); beside = omega (arith, bounds.1, c.requires.0) })
 
 pub loop-k-preserved : goal.loop-k-preserved
 loop-k-preserved c =

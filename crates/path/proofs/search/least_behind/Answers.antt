@@ -1,9 +1,12 @@
--- `least_behind`: at the loop's test the start is the least behind the train ahead in the first b blocks.
+-- `least_behind`: at the loop's test the start is the least behind the train ahead in the blocks so far.
 use Prim.Native.Nat.{ℕ, ◌+◌, ◌-◌, ◌≤◌, max}
 use mathlib.Core.List.{List}
 use mathlib.Core.Path.{◌≡◌, subst}
 use native.Mathlib.Numerals.{add-one}
 use native.Mathlib.Omega.{arith}
+use borrow.Author.Rules.{rules}
+use lib.ListN.{length, length-append}
+use Rattle.std.proofs.lemmas.Slice.Zip.{zip_turn, zip_end}
 use Rattle.rules.specs.Count.{entry}
 use Rattle.rules.proofs.Count.{below_suc}
 use Rattle.path.specs.Values.{LeastBehind}
@@ -27,14 +30,21 @@ module _ (low ahead : ℕ) (ends begins : List ℕ) where
   all : {n m start : ℕ} → n ≡ m → LeastBehind n low ahead ends begins start → LeastBehind m low ahead ends begins start
   all {start = start} e r = subst (λ n. LeastBehind n low ahead ends begins start) e r
 
-pub loop-b-init : goal.loop-b-init
-loop-b-init c = none _ _ _ _
+pub loop-end-init : goal.loop-end-init
+loop-end-init c = none _ _ _ _
 
-pub overflow_add-ahead : goal.overflow_add-ahead
-overflow_add-ahead c = omega (arith, c.requires.fits.0, c.requires.fits.1 c.loop-b.b c.loop-b-test.true)
-
-pub loop-b-preserved : goal.loop-b-preserved
-loop-b-preserved c = one_more _ _ _ _ _ c.loop-b.invariant c.later-start.ensures
+pub loop-end-preserved : goal.loop-end-preserved
+loop-end-preserved c =
+    let o = c.loop-end in
+    let (there, beside, end, begin) =
+    zip_turn c.args.ends.now c.args.begins.now o.yielded c.into_iter-end-iterator.result o.end-iterator c.next.new.self _ (search rules)
+    (search rules) o.yielded_by (c.in-Some.end, c.in-Some.begin) c.in-Some.is c.next.ensures.steps in
+    rw length-append (one_more _ _ _ _ (length o.yielded) o.invariant (rw (end 0, begin 0) at c.later-start.ensures))
 
 pub returns : goal.returns
-returns c = all _ _ _ _ (omega (arith, c.loop-b.auto)) c.loop-b.invariant
+returns c =
+    let o = c.loop-end in
+    let done =
+    zip_end c.args.ends.now c.args.begins.now o.yielded c.into_iter-end-iterator.result o.end-iterator c.next.new.self _ (search rules)
+    (search rules) o.yielded_by c.in-None.is c.next.ensures.steps in
+    all _ _ _ _ (omega (arith, done, c.requires.beside)) o.invariant
