@@ -29,7 +29,7 @@ fn record_at(file: &[u8], first: usize, k: u64) -> usize
     at
 }
 
-// The file's rules and 10.
+// The line and the place of the record of train k, where neither a rule of the file nor rule 10 refuses.
 pub(crate) fn find_train(file: &[u8], k: u64) -> Result<Found, Refusal>
     ensures refusal { refused_by result ≡ train_refusal file.now k }
     ensures found { IfOk result (λ found. found ≡ found_for file.now k) }

@@ -38,7 +38,7 @@ pub fn check_train(file: &[u8], k: u64) -> Result<(), Refusal>
     Ok(())
 }
 
-// Where the record of train k stands in the file.
+// Where the record of train k stands in the file, where neither a rule of the file nor rule 10 refuses.
 pub fn record_place(file: &[u8], k: u64) -> Result<RecordPlace, Refusal>
     ensures { as_record_place result ≡ record_place file.now k }
 {

@@ -18,7 +18,7 @@ pub struct OpenedTrain {
     pub train: Train,
 }
 
-// The file's rules.
+// The file's line, T and the place of its first train record, where no rule of the file refuses it.
 pub fn open_file(file: &[u8]) -> Result<DecodedFile, Refusal>
     ensures refusal { refused_by result ≡ file_refusal file.now }
     ensures opened { IfOk result (λ opened. opened ≡ decoded_file file.now) }
@@ -29,7 +29,7 @@ pub fn open_file(file: &[u8]) -> Result<DecodedFile, Refusal>
     Ok(decoded)
 }
 
-// The file's rules and 10.
+// The line and train k, where neither a rule of the file nor rule 10 refuses.
 pub fn open_train(file: &[u8], k: u64) -> Result<OpenedTrain, Refusal>
     ensures refusal { refused_by result ≡ train_refusal file.now k }
     ensures opened { IfOk result (λ opened. opened ≡ opened_train file.now k) }

@@ -18,21 +18,8 @@ returns-in_err-unless-clause-refusal c =
     let missing = train_missing _ _ (sym c.in_ok-opened.ensures.refusal) (omega (arith, trains, ltb-false _ _ broken)) in
     passed_on _ _ c.from_residual-in_err-unless.ensures.1 ∙ own ∙ sym missing
 
-pub record_at-at-requires : goal.record_at-at-requires
-record_at-at-requires c =
-    let e = c.in_ok-opened.ensures.opened in
-    let trains = ap (λ (d : DecodedFile). d.trains) e in
+pub returns-clause-refusal : goal.returns-clause-refusal
+returns-clause-refusal c =
+    let trains = ap (λ (d : DecodedFile). d.trains) c.in_ok-opened.ensures.opened in
     let there = ltb-true _ _ (passes _ _ c.in_ok-unless.ensures) in
-    (sym c.in_ok-opened.ensures.refusal, omega (arith, trains, there), ap (λ (d : DecodedFile). d.at) e)
-
-pub returns : goal.returns
-returns c =
-    let e = c.in_ok-opened.ensures.opened in
-    let trains = ap (λ (d : DecodedFile). d.trains) e in
-    let line = ap (λ (d : DecodedFile). d.line) e in
-    let there = ltb-true _ _ (passes _ _ c.in_ok-unless.ensures) in
-    record {
-      refusal = sym (train-there _ _ (sym c.in_ok-opened.ensures.refusal) (omega (arith, trains, there)));
-      found = rw (line, c.record_at-at.ensures.0);
-      within = c.record_at-at.ensures.1;
-    }
+    sym (train-there _ _ (sym c.in_ok-opened.ensures.refusal) (omega (arith, trains, there)))

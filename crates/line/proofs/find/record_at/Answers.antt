@@ -1,4 +1,4 @@
-use mathlib.Core.Path.{◌≡◌, sym, ◌∙◌}
+use mathlib.Core.Path.{sym, ◌∙◌}
 use native.Mathlib.Omega.{arith}
 use Rattle.rules.proofs.Accepted.{file_there}
 use Rattle.rules.proofs.File.{record_first, trains-within, part_next, part_inside}
@@ -15,8 +15,3 @@ loop-preserved c = let o = c.loop in
       part_next f o.counter o.at o.invariant.0 size,
       omega (arith, part_inside f o.counter o.at o.invariant.0 size (omega (arith, c.loop-test.true)), file_there f c.requires.0),
     )
-
-pub returns : goal.returns
-returns c = let o = c.loop in
-    let e : o.counter ≡ c.args.k = omega (arith, c.loop-test.false) in
-    (rw e at o.invariant.0, o.invariant.1)

@@ -1,5 +1,5 @@
 use Prim.Native.Nat.{◌<◌}
-use mathlib.Core.Path.{◌≡◌, sym, ap, ◌∙◌}
+use mathlib.Core.Path.{sym, ap, ◌∙◌}
 use native.Mathlib.Omega.{arith}
 use Rattle.rules.specs.File.{train_count}
 use Rattle.rules.proofs.File.{record_first, trains-within, part_next, part_inside}
@@ -25,9 +25,3 @@ loop-preserved c =
       omega (arith, part_inside f o.counter o.at o.invariant.0 size on_file, c.requires.0),
       kept_more (kept_of f) o.counter o.invariant.2 here c.and-kept.ensures,
     )
-
-pub returns : goal.returns
-returns c = let o = c.loop in
-    let count = ap (λ (d : DecodedFile). d.trains) c.requires.1 in
-    let e : o.counter ≡ train_count c.args.file.now = omega (arith, count, c.loop-test.false) in
-    rw e at o.invariant.2

@@ -7,6 +7,3 @@ pub returns-in_err-check_length-clause-refusal : goal.returns-in_err-check_lengt
 returns-in_err-check_length-clause-refusal c =
     let cut = c.in_err-check_length.ensures in
     passed_on _ _ c.from_residual.ensures.1 ∙ cut ∙ sym (file_cut _ (λ z. numbered _ (cut ∙ z)))
-
-pub judge-requires : goal.judge-requires
-judge-requires c = (sym c.in_ok-check_length.ensures, c.decode_file-decoded.ensures)

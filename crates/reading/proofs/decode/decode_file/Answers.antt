@@ -1,12 +1,7 @@
 use mathlib.Core.Path.{ap, ◌∙◌}
 use Rattle.rules.specs.File.{word}
 use Rattle.reading.proofs.Decoding.{array_read, line_decoded}
-use native.Mathlib.Omega.{arith}
 use Rattle.reading.proofs.decode.decode_file.Goals as goal
-
-pub word_at-requires-5 : goal.word_at-requires-5
-word_at-requires-5 c = let at = c.line_places-places.ensures in
-    omega (arith, at.train_count, at.most)
 
 pub returns : goal.returns
 returns c = let three = c.word_at-balises.ensures.0 in

@@ -3,11 +3,8 @@ use native.Mathlib.Numerals.{add-one}
 use native.Mathlib.Omega.{arith}
 use mathlib.Core.Path.{refl}
 use Rattle.rules.specs.File.{words}
-use Rattle.rules.proofs.Fill.{fill_none, fill_up, fill_padded}
+use Rattle.rules.proofs.Fill.{fill_up, fill_padded}
 use Rattle.reading.proofs.words.words_at.Goals as goal
-
-pub loop-i-init : goal.loop-i-init
-loop-i-init c = fill_none _ _ _
 
 pub loop-i-preserved : goal.loop-i-preserved
 loop-i-preserved c = fill_up c.loop-i.invariant (omega arith) (add-one _) (omega arith) c.word_at.ensures.0
