@@ -2,7 +2,7 @@
 #![tactic(auto)]
 
 ghost use Rattle.std.specs.Prelude.{◌≡◌};
-ghost use Rattle.stops.specs.Stops.{stop_number, stop_from, stop_ahead, is_at, dwell_here};
+ghost use Rattle.stops.specs.Stops.{stop_number, stop_from, stop_ahead, dwell_here};
 
 // The number of a stop and its point.
 #[derive(Clone, Copy)]
@@ -43,13 +43,6 @@ pub fn stop_ahead(stops: &[u16], before: Option<Stop>, i: usize) -> Option<Stop>
     } else {
         stop_from(stops, stop.number, i)
     }
-}
-
-// Whether the stop is at point i.
-pub fn is_at(stop: Option<Stop>, i: usize) -> bool
-    ensures { result ≡ is_at stop i }
-{
-    stop.is_some_and(|stop| stop.point == i)
 }
 
 // The dwell in microseconds where the stop is at point i, else 0. The dwell at point 0 does not count.
