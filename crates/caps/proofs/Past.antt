@@ -1,8 +1,8 @@
 -- How many places have been reached, one place after the other. Assumes nothing.
-use Prim.Native.Nat.{ℕ, zero, suc, ◌+◌, ◌-◌, ◌≤◌, ◌<◌}
+use Prim.Native.Nat.{ℕ, zero, suc, ◌+◌, ◌-◌, ◌≤◌, ◌<◌, max}
 use mathlib.Core.Bool.{Bool, true, false, cond}
 use mathlib.Core.List.{List}
-use mathlib.Core.Path.{◌≡◌, refl}
+use mathlib.Core.Path.{◌≡◌, refl, sym, ◌∙◌}
 use native.Mathlib.Nat.{add-zero}
 use native.Mathlib.Omega.{arith}
 use lib.Dec.{leb}
@@ -30,13 +30,31 @@ past_is places reach (suc left) k (suc more) m before here =
     rw (le-leb (entry places k) reach reached) (omega arith)
 
 -- among the entries in use
-pub past_taken :
-    (at : List ℕ) {n : ℕ} (k reach : ℕ) {more : ℕ} → n ≤ length at → more ≤ length (take n at) - k → ((j : ℕ) → j < more → entry (take n at) (k + j) ≤ reach) →
-    (more < length (take n at) - k → reach < entry (take n at) (k + more)) → k + more ≡ past at n k reach
-past_taken at {n} k reach {more} h m before here =
-    let long : length (take n at) ≡ n = length-take-le n at h in
-    past_is at reach (n - k) k more (omega arith) (λ j l. rw (get_or-take n at (k + j) 0 (omega arith)) at (before j l))
-    (λ l. rw (get_or-take n at (k + more) 0 (omega arith)) at (here (omega arith)))
+module _ (at : List ℕ) {n : ℕ} (k reach : ℕ) {places : List ℕ} (h : n ≤ length at) (e : places ≡ take n at) where
+  long : length places ≡ n
+  long = rw e (length-take-le n at h)
+
+  same : {j : ℕ} → j < n → entry places j ≡ entry at j
+  same {j} l = rw e (get_or-take n at j 0 l)
+
+  -- the first that is not reached is found
+  pub past_found :
+      {i : ℕ} → k ≤ i → i < length places → ((j : ℕ) → k ≤ j → j < i → entry places j ≤ reach) → reach < entry places i → i ≡ past at n k reach
+  past_found {i} m l before here =
+      let q : k + (i - k) ≡ i = omega arith in
+      sym q
+      ∙ past_is at reach (n - k) k (i - k) (omega (arith, long))
+      (λ j g. omega (arith, before (k + j) (omega arith) (omega arith), same {j = k + j} (omega (arith, long))))
+      (λ g. rw q (omega (arith, here, same {j = i} (omega (arith, long)))))
+
+  -- all are reached
+  pub past_none : {i : ℕ} → i ≡ max k (length places) → ((j : ℕ) → k ≤ j → j < length places → entry places j ≤ reach) → i ≡ past at n k reach
+  past_none {i} r all =
+      let q : k + (n - k) ≡ i = omega (arith, long) in
+      sym q
+      ∙ past_is at reach (n - k) k (n - k) (omega arith)
+      (λ j g. omega (arith, all (k + j) (omega arith) (omega (arith, long)), same {j = k + j} (omega arith)))
+      (λ g. absurd (omega arith))
 
 -- of n places, the first k are reached
 pub record AtMost (place : ℕ → ℕ) (n reach k : ℕ) : Type 0 where

@@ -17,11 +17,11 @@ use Rattle.rules.proofs.Fill.{padded-within}
 use Rattle.rules.proofs.Grown.{rear, distance_from, last-passed, none_passed, places-rise, rear_far}
 use Rattle.values.specs.declared.decoded.Line as decoded_line
 use Rattle.values.specs.declared.decoded.Train as decoded_train
-use Rattle.values.specs.Values.{as_line, as_train, zeros}
+use Rattle.values.specs.Values.{as_line, as_train}
 use Rattle.caps.specs.declared.places.Places.{Places}
 use Rattle.caps.specs.declared.Course.{Course}
 use Rattle.caps.specs.declared.Covered.{Covered}
-use Rattle.caps.specs.Caps.{in_use, places_of, limit_places, balise_places, last_place, place_ahead, rear_at, head_for, lowest_limit, covering, covered_at}
+use Rattle.caps.specs.Caps.{in_use, zeros, places_of, limit_places, balise_places, last_place, place_ahead, rear_at, head_for, lowest_limit, covering, covered_at}
 use Rattle.caps.proofs.Lowest.{lowest_agree}
 use Rattle.caps.proofs.Past.{AtMost, Reached, past_reached}
 use Rattle.caps.proofs.Covering.{limit_place, IsCovered, reached_first, covered_lowest}

@@ -1,8 +1,7 @@
 -- What a train covers, as its head and the rear of its grown length pass along the line. Places are in m from point 0.
-use Rattle.std.specs.Prelude.{ℕ, zero, suc, ◌+◌, ◌-◌, ◌*◌, min, cond, List, leb, ltb, eqb}
+use Rattle.std.specs.Prelude.{ℕ, zero, suc, ◌+◌, ◌-◌, ◌*◌, min, cond, List, replicate, leb, ltb, eqb}
 use Rattle.rules.specs.Count.{entry, row, padded, lowest_from, ceil_div}
 use Rattle.values.specs.declared.decoded.Line.{Line}
-use Rattle.values.specs.Values.{zeros}
 use Rattle.caps.specs.declared.places.Places.{Places}
 use Rattle.caps.specs.declared.Course.{Course}
 use Rattle.caps.specs.declared.Covered.{Covered}
@@ -14,6 +13,10 @@ in_use count = min count 64
 -- n places by points and the metres past each, in the 64 places of an array
 unfoldable pub places_of : List ℕ → List ℕ → ℕ → ℕ → Places
 places_of points metres n step = record { count = n; at = padded 64 (row (λ k. entry points k * step + entry metres k) n) }
+
+-- no metres past any point
+abbrev pub zeros : List ℕ
+zeros = replicate 64 0
 
 -- the places at which the limits begin, and those of the balises
 unfoldable pub limit_places : Line → Places

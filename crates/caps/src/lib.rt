@@ -4,7 +4,7 @@
 
 mod places;
 
-ghost use Rattle.std.specs.Prelude.{◌≡◌, min, take, drop};
+ghost use Rattle.std.specs.Prelude.{◌≡◌, min};
 ghost use Rattle.std.specs.List.{fold};
 ghost use Rattle.caps.specs.Caps.{lowest_limit, covering, covered_at};
 
@@ -46,14 +46,12 @@ impl Covered {
     };
 }
 
-// The lowest of the top and the limits from number `first` on and before number `end`.
-fn lowest_of(limits: &[u16], top: u32, first: usize, end: usize) -> u32
-    ensures { result ≡ fold min top (drop first (take end limits.now)) }
+// The lowest of the top and some limits.
+fn lowest_of(limits: &[u16], top: u32) -> u32
+    ensures { result ≡ fold min top limits.now }
 {
     limits
         .iter()
-        .take(end)
-        .skip(first)
         .map(|limit| u32::from(*limit))
         .fold(top, u32::min)
 }
@@ -63,7 +61,9 @@ impl Course {
     fn lowest_limit(&self, tail: usize, head: usize) -> u32
         ensures { result ≡ lowest_limit self.now.limits self.now.top tail head }
     {
-        lowest_of(&self.limits, self.top, tail.saturating_sub(1), head)
+        let reached = &self.limits[..head.min(64)];
+        let first = tail.saturating_sub(1).min(reached.len());
+        lowest_of(&reached[first..], self.top)
     }
 
     // What is covered once the head and the tail have reached so many limits and the head so many balises.

@@ -1,15 +1,13 @@
-use Rattle.std.proofs.Common.{rules, arith, ℕ, ◌≤◌, ◌<◌, ◌+◌, ◌-◌, length}
-use Rattle.rules.specs.Count.{entry}
-use Rattle.caps.proofs.Past.{past_taken}
+use Rattle.std.proofs.Common.{◌≤◌, arith}
+use Rattle.caps.proofs.Past.{past_found, past_none}
 use Rattle.caps.proofs.places.Places.passed.Goals as goal
+
+pub returns-then-reach-places : goal.returns-then-reach-places
+returns-then-reach-places c =
+    let from : c.args.k ≤ c.loop-i.i = c.loop-i.auto.i in
+    past_found c.args.self.now.at c.args.k c.args.reach (omega arith) c.in_use-places.ensures from c.loop-i-test.true c.loop-i.invariant c.if-reach-places.true
 
 pub returns : goal.returns
 returns c =
-    let places = c.in_use.result.now in
-    let more = c.count-more.result in
-    let h :
-    (more ≤ length places - c.args.k) × ((j : ℕ) → j < more → entry places (c.args.k + j) ≤ c.args.reach) ×
-    (more < length places - c.args.k → c.args.reach < entry places (c.args.k + more)) =
-    search rules in
-    let (m, before, here) = rw c.in_use.ensures at h in
-    past_taken c.args.self.now.at c.args.k c.args.reach (omega arith) m before here
+    past_none c.args.self.now.at c.args.k c.args.reach (omega arith) c.in_use-places.ensures c.max.ensures
+    (λ j g l. c.loop-i.invariant j g (omega (arith, c.loop-i-test.false)))
