@@ -1,16 +1,14 @@
 // A stretch of the forward sweep: points at which the lowest limit covered is the same.
-ghost use Rattle.std.specs.Prelude.{true, cond, ◌≡◌, ℕ, ◌+◌, ◌-◌, ◌≤◌, ◌<◌, min, length};
-ghost use Rattle.rules.specs.Count.{entry, greatest_below, row};
+ghost use Rattle.std.specs.Prelude.{cond, ◌≡◌, ℕ, ◌+◌, ◌-◌, ◌≤◌, ◌<◌, min, length};
+ghost use Rattle.rules.specs.Count.{entry, greatest_below};
 ghost use Rattle.rules.specs.Run.{squared};
 ghost use Rattle.stops.specs.Stops.{Apart, Behind};
-ghost use Rattle.forward.specs.Traction.{Falls, BandBounds};
-ghost use Rattle.forward.specs.Stretch.{SweptTo};
+ghost use Rattle.forward.specs.Stretch.{SweptTo, point_of};
 
-use crate::bands::{Bands, band_above, traction_step};
+use crate::bands::Bands;
 use crate::numbers::squared_of;
 use stops::{Stop, stop_ahead};
 use values::SquaredSpeed;
-use widths::least;
 
 // The cap of a speed in km/h: 0 at a stop.
 fn cap_of(stopped: bool, v: u32) -> SquaredSpeed
@@ -18,9 +16,10 @@ fn cap_of(stopped: bool, v: u32) -> SquaredSpeed
     ensures { result.0 ≡ cond stopped 0 (squared v) }
 {
     if stopped {
-        return SquaredSpeed(0);
+        SquaredSpeed(0)
+    } else {
+        squared_of(v)
     }
-    squared_of(v)
 }
 
 // A squared speed under way, and the band by which the last step was drawn: the search for the next begins with it.
@@ -31,18 +30,11 @@ pub struct Drawn {
 }
 
 // The lesser of the cap and the traction step from w. A cap at most w and the square of the last top is at most the step.
-fn capped_step<'a>(
-    count: usize,
-    gains: &'a [u32; 8],
-    squares: &'a [u32; 8],
-    falling: bool,
-    before: Drawn,
-    cap: SquaredSpeed,
-) -> Drawn
-    requires band_bounds { BandBounds count gains.now squares.now × (before.w.0 ≤ 900000000) × (falling ≡ true → Falls count gains.now) }
-    requires le_count { (1 ≤ count) × (cap.0 ≤ entry squares.now (count - 1)) }
+fn capped_step(bands: &Bands, before: Drawn, cap: SquaredSpeed) -> Drawn
+    requires w_bound { before.w.0 ≤ 900000000 }
+    requires le_count { (1 ≤ bands.now.count) × (cap.0 ≤ entry bands.now.squares (bands.now.count - 1)) }
     ensures { result.w.0 ≡
-        min cap.0 (greatest_below count (λ k. min (before.w.0 + entry gains.now k) (entry squares.now k))) }
+        min cap.0 (greatest_below bands.now.count (λ k. min (before.w.0 + entry bands.now.gains k) (entry bands.now.squares k))) }
 {
     if cap.0 <= before.w.0 {
         return Drawn {
@@ -50,8 +42,8 @@ fn capped_step<'a>(
             band: before.band,
         };
     }
-    let band = band_above(count, squares, before.band, before.w);
-    let step = traction_step(count, gains, squares, falling, band, before.w);
+    let band = bands.above(before.band, before.w);
+    let step = bands.traction_step(band, before.w);
     Drawn {
         w: step.at_most(cap),
         band,
@@ -62,11 +54,11 @@ fn capped_step<'a>(
 #[derive(Clone, Copy)]
 pub struct Swept {
     pub drawn: Drawn,
-    pub stop: Stop,
+    pub stop: Option<Stop>,
 }
 
 // Before point 0. The step from the greatest squared speed is at least any cap, so point 0 gets its cap.
-pub(crate) fn swept_from(stop: Stop) -> Swept
+pub(crate) fn swept_from(stop: Option<Stop>) -> Swept
     ensures { (result.drawn.w.0 ≡ 900000000) × (result.stop ≡ stop) }
 {
     Swept {
@@ -78,43 +70,44 @@ pub(crate) fn swept_from(stop: Stop) -> Swept
     }
 }
 
+// The point of a stop, or the end of a stretch where no stop is left. The sweep tests this number alone at each point: to test the stop itself
+// makes the whole sweep half as slow again.
+fn point_of(stop: Option<Stop>, end: usize) -> usize
+    ensures { result ≡ point_of stop end }
+{
+    stop.map_or(end, |stop| stop.point)
+}
+
 // Sweeps over the points from `from` up to `end`, at which the lowest limit is the same.
 pub(crate) fn write_stretch(
-    bands: Bands,
-    stop_points: &[u16; 64],
-    stop_count: usize,
+    bands: &Bands,
+    stops: &[u16],
     lowest: u32,
     from: usize,
     end: usize,
     speeds: &mut [u32],
     before: Swept,
 ) -> Swept
-    requires band_bounds { BandBounds bands.count bands.gains bands.squares × (bands.falling ≡ true → Falls bands.count bands.gains) }
-    requires le_count { (1 ≤ bands.count) × (squared lowest ≤ entry bands.squares (bands.count - 1)) × (lowest ≤ 300) }
+    requires le_count { (1 ≤ bands.now.count) × (squared lowest ≤ entry bands.now.squares (bands.now.count - 1)) × (lowest ≤ 300) }
     requires w_bound { before.drawn.w.0 ≤ 900000000 }
-    requires stop_count_bound { (stop_count ≤ 64) × Apart (row (entry stop_points.now) stop_count) }
-    requires behind { Behind (row (entry stop_points.now) stop_count) before.stop from }
-    requires from_le_end { (from ≤ end) × (end ≤ length speeds.old) × (end ≤ 65536) }
-    ensures carried { Behind (row (entry stop_points.now) stop_count) result.stop end × (result.drawn.w.0 ≤ 900000000) }
-    ensures speeds { SweptTo bands (row (entry stop_points.now) stop_count) lowest from end end before.drawn.w.0
+    requires apart { Apart stops.now }
+    requires behind { Behind stops.now before.stop from }
+    requires from_le_end { (from ≤ end) × (end ≤ length speeds.old) }
+    ensures carried { Behind stops.now result.stop end × (result.drawn.w.0 ≤ 900000000) }
+    ensures speeds { SweptTo bands.now stops.now lowest from end end before.drawn.w.0
         result.drawn.w.0 speeds.old speeds.new }
 {
     let mut drawn = before.drawn;
     let mut stop = before.stop;
-    let mut i = from;
-    while i < end {
-        stop = stop_ahead(stop_points, stop_count, stop, i);
-        let cap = cap_of(stop.point == i, lowest);
-        drawn = capped_step(
-            bands.count,
-            &bands.gains,
-            &bands.squares,
-            bands.falling,
-            drawn,
-            cap,
-        );
+    let mut stop_point = point_of(stop, end);
+    for i in from..end {
+        if stop_point < i {
+            stop = stop_ahead(stops, stop, i);
+            stop_point = point_of(stop, end);
+        }
+        let cap = cap_of(stop_point == i, lowest);
+        drawn = capped_step(bands, drawn, cap);
         speeds[i] = drawn.w.0;
-        i += 1;
     }
     Swept { drawn, stop }
 }
@@ -124,8 +117,5 @@ pub(crate) fn stretch_end(until: usize, i: usize, end: usize) -> usize
     requires { i < end }
     ensures { (i < result) × (result ≤ end) × ((j : ℕ) → i < j → j < result → j < until) }
 {
-    if until <= i {
-        return i + 1;
-    }
-    least(until, end)
+    if until <= i { i + 1 } else { until.min(end) }
 }

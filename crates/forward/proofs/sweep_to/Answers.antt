@@ -1,43 +1,31 @@
-use mathlib.Core.Path.{◌≡◌, sym, ◌∙◌}
-use native.Mathlib.Omega.{arith}
-use lib.ListN.{length}
-use Rattle.rules.specs.Refusal.{refusal, rules_on}
+use Rattle.std.proofs.Common.{arith, length, sym, ◌∙◌}
+use Rattle.refusals.proofs.Passing.{numbered}
 use Rattle.rules.proofs.Accepted.{on_admitted}
 use Rattle.values.specs.Values.{as_line, as_train}
 use Rattle.values.proofs.Parallel.{decoded_parallel}
 use Rattle.forward.proofs.Answers.{entries_most, not_swept, swept, greatest}
 use Rattle.forward.proofs.sweep_to.Goals as goal
 
-pub returns-then-number-ne0 : goal.returns-then-number-ne0
-returns-then-number-ne0 c = let a = c.args in
-    let e = c.refusal_on-number.ensures in
-    record {
-      number = e;
-      speeds = not_swept (as_line a.line) (as_train a.train) a.point a.speeds.now (λ z. c.if-number-ne0.true (e ∙ z));
-      greatest = λ z. absurd (c.if-number-ne0.true z);
-    }
-
-pub write_forward-requires : goal.write_forward-requires
-write_forward-requires c =
-    let kept : refusal (rules_on (as_line c.args.line) (as_train c.args.train)) ≡ 0 = (sym c.refusal_on-number.ensures ∙ c.if-number-ne0.false) in
+pub returns-in_err-check_on-clause-speeds : goal.returns-in_err-check_on-clause-speeds
+returns-in_err-check_on-clause-speeds c =
     let a = c.args in
-    let e = c.entries_to-end.ensures in
-    let most = entries_most a.point a.line.points (length a.speeds.now) in
-    record {
-      admitted = on_admitted _ _ kept (decoded_parallel a.line a.train);
-      end_le_points = (omega (arith, e, most.0), omega (arith, e, most.1));
-    }
+    not_swept (as_line a.line) (as_train a.train) a.point a.speeds.now (λ z. numbered _ (c.in_err-check_on.ensures ∙ z))
 
-pub returns : goal.returns
-returns c =
-    let kept : refusal (rules_on (as_line c.args.line) (as_train c.args.train)) ≡ 0 = (sym c.refusal_on-number.ensures ∙ c.if-number-ne0.false) in
-    let a = c.args in
-    let l = as_line a.line in
-    let t = as_train a.train in
+pub write_forward-requires-clause-admitted : goal.write_forward-requires-clause-admitted
+write_forward-requires-clause-admitted c = on_admitted _ _ (sym c.in_ok-check_on.ensures) (decoded_parallel c.args.line c.args.train)
+
+pub write_forward-requires-clause-end_le_points : goal.write_forward-requires-clause-end_le_points
+write_forward-requires-clause-end_le_points c =
     let e = c.entries_to-end.ensures in
-    let w = c.write_forward.ensures in
-    record {
-      number = sym kept;
-      speeds = swept l t a.point a.speeds.now e w kept;
-      greatest = λ z. greatest l t a.point a.speeds.now e w;
-    }
+    let most = entries_most c.args.point c.args.line.points (length c.args.speeds.now) in
+    (omega (arith, e, most.0), omega (arith, e, most.1))
+
+pub returns-clause-speeds : goal.returns-clause-speeds
+returns-clause-speeds c =
+    let a = c.args in
+    swept (as_line a.line) (as_train a.train) a.point a.speeds.now c.entries_to-end.ensures c.write_forward.ensures (sym c.in_ok-check_on.ensures)
+
+pub returns-clause-greatest : goal.returns-clause-greatest
+returns-clause-greatest c =
+    let a = c.args in
+    greatest (as_line a.line) (as_train a.train) a.point a.speeds.now c.entries_to-end.ensures c.write_forward.ensures

@@ -10,9 +10,12 @@ use Rattle.rules.proofs.Fill.{fill_none, fill_join}
 use Rattle.rules.proofs.Written.{fill_written}
 use Rattle.rules.proofs.Step.{squared_mono, last_top-most}
 use Rattle.values.specs.Values.{as_line, as_train}
+use lib.ListN.{length, take, length-take}
+use Rattle.std.proofs.Common.{rules}
+use Rattle.chains.proofs.InUse.{taken_row}
 use Rattle.stops.proofs.Passing.{behind-first}
 use Rattle.caps.proofs.Walk.{course_is, known_at, nearing_first, nearing_next, known_lowest, known_top}
-use Rattle.forward.proofs.Traction.{count-least, count_most, bands_bounded, traction_is, last-most}
+use Rattle.forward.proofs.Traction.{count-least, count_most, traction_is, last-most}
 use Rattle.forward.proofs.Sweeping.{OnCourse, before-start}
 use Rattle.values.specs.declared.decoded.Line.{Line as DecodedLine}
 use Rattle.values.specs.declared.decoded.Train.{Train as DecodedTrain}
@@ -27,16 +30,29 @@ use Rattle.forward.proofs.write_forward.Goals as goal
 
 -- the line that is swept is one to which what was found before the loop belongs
 here :
-    (line : DecodedLine) (train : DecodedTrain) {begun balises : Places} {top end : ℕ} {bands : Bands} → Admitted (as_line line) (as_train train) →
-    begun ≡ limit_places line → balises ≡ balise_places line → top ≡ last_top (as_train train) → IsBands (as_line line) (as_train train) bands →
-    end ≤ line.points →
-    OnCourse (as_line line) (as_train train) begun.at line.limits balises.at
-    (record { limit_count = begun.count; balise_count = balises.count; step = line.step; length = train.length; top = top }) bands end
+    (line : DecodedLine) (train : DecodedTrain) {limits_at balises_at : Places} {top end : ℕ} {bands : Bands} → Admitted (as_line line) (as_train train) →
+    limits_at ≡ limit_places line → balises_at ≡ balise_places line → top ≡ last_top (as_train train) →
+    IsBands (as_line line) (as_train train) bands.count bands.gains bands.squares → end ≤ line.points →
+    OnCourse (as_line line) (as_train train)
+    (record { limits_at = limits_at; limits = line.limits; balises_at = balises_at; step = line.step; length = train.length; top = top }) bands end
 here line train a p q e b m = record { admitted = a; course = course_is line train a p q e; bands = b; on_line = m }
 
 -- the stops in use
 few : (train : DecodedTrain) {line : Line} → Admitted line (as_train train) → train.stop_count ≤ 64
 few train a = let n = length-row (entry train.stops) train.stop_count in omega (arith, a.rule3_train.stops-most)
+
+stops_are : (train : DecodedTrain) {line : Line} → length train.stops ≡ 64 → Admitted line (as_train train) → take train.stop_count train.stops ≡ (as_train train).stops
+stops_are train long a = taken_row train.stops (omega (arith, few train a))
+
+pub slice_bounds-stop_points-end : goal.slice_bounds-stop_points-end
+slice_bounds-stop_points-end c = omega (arith, few c.args.train c.requires.admitted)
+
+pub slice_bounds-stops-end : goal.slice_bounds-stops-end
+slice_bounds-stops-end c =
+    let t = c.args.train in
+    let long : length t.stops ≡ 64 = search rules in
+    let some = few t c.requires.admitted in
+    omega (arith, length-take t.stop_count t.stops)
 
 pub last_top-requires : goal.last_top-requires
 last_top-requires c =
@@ -46,7 +62,7 @@ pub loop-i-init : goal.loop-i-init
 loop-i-init c =
     let first = c.swept_from-swept.ensures in (
       omega arith,
-      rw first.1 (behind-first c.args.train.stops (few c.args.train c.requires.admitted) c.first_stop.ensures),
+      rw first.1 (behind-first (take c.args.train.stop_count c.args.train.stops) c.first_stop.ensures),
       omega (arith, first.0),
       λ l on. (nearing_first l _ on.admitted refl, rw first.0 (before-start l _), fill_none _ _ _),
     )
@@ -61,21 +77,19 @@ pub write_stretch-swept-requires : goal.write_stretch-swept-requires
 write_stretch-swept-requires c =
     let admitted = c.requires.admitted in
     let on =
-    here c.args.line c.args.train admitted c.limit_places-begun.ensures c.balise_places-balises.ensures c.last_top.ensures c.bands_of-bands.ensures
+    here c.args.line c.args.train admitted c.limit_places-limits_at.ensures c.balise_places-balises_at.ensures c.last_top.ensures c.bands_of-bands.ensures
     c.requires.end_le_points.0 in
     let done = c.loop-i.invariant.3 _ on in
-    let m = last-most _ _ admitted _ on.bands in
+    let m = last-most _ _ admitted on.bands in
     let e = c.stretch_end-next.ensures in
     let low = known_top _ _ admitted (known_at _ _ on.admitted on.course c.loop-i.i c.narrow_point.ensures done.0 c.covered_at-covered.ensures) in
     let long = done.2.long in
     record {
-      band_bounds = (bands_bounded _ _ admitted _ on.bands, on.bands.falls);
       le_count = (m.0, rw m.1 (squared_mono low), le_trans low (last_top-most _ _ admitted));
       w_bound = c.loop-i.invariant.2;
-      stop_count_bound = (few c.args.train admitted, admitted.rule8.apart);
+      apart = rw (stops_are c.args.train (search rules) admitted) admitted.rule8.apart;
       behind = c.loop-i.invariant.1;
-      from_le_end =
-          (omega (arith, e.0), omega (arith, e.1, long, c.requires.end_le_points.1), omega (arith, e.1, c.requires.end_le_points.0, admitted.rule3_line.points-most));
+      from_le_end = (omega (arith, e.0), omega (arith, e.1, long, c.requires.end_le_points.1));
     }
 
 pub loop-i-smaller : goal.loop-i-smaller
@@ -93,8 +107,8 @@ loop-i-preserved c =
           let covers = known_at l _ on.admitted on.course c.loop-i.i c.narrow_point.ensures done.0 c.covered_at-covered.ensures in
           let (before, filled) = swept.speeds l _ (record {
             admitted = on.admitted;
-            traction = traction_is l _ on.admitted _ on.bands;
-            stops_are = refl;
+            traction = traction_is l _ on.admitted on.bands;
+            stops_are = stops_are c.args.train (search rules) c.requires.admitted;
             lowest_is = λ j h m.
                 let there = ⊎_elim (λ q. inl (sym q)) (λ q. inr (h, e.2 j q m)) (eq-or-lt_of_le h) in
                 known_lowest l _ on.admitted covers j there (omega (arith, e.1, on.on_line));
@@ -106,14 +120,14 @@ loop-i-preserved c =
 pub shape_of-speeds : goal.shape_of-speeds
 shape_of-speeds c =
     let on =
-    here c.args.line c.args.train c.requires.admitted c.limit_places-begun.ensures c.balise_places-balises.ensures c.last_top.ensures
+    here c.args.line c.args.train c.requires.admitted c.limit_places-limits_at.ensures c.balise_places-balises_at.ensures c.last_top.ensures
     c.bands_of-bands.ensures c.requires.end_le_points.0 in
     (c.loop-i.invariant.3 _ on).2.long
 
 pub returns : goal.returns
 returns c =
     let on =
-    here c.args.line c.args.train c.requires.admitted c.limit_places-begun.ensures c.balise_places-balises.ensures c.last_top.ensures
+    here c.args.line c.args.train c.requires.admitted c.limit_places-limits_at.ensures c.balise_places-balises_at.ensures c.last_top.ensures
     c.bands_of-bands.ensures c.requires.end_le_points.0 in
     let q : c.loop-i.i ≡ c.args.end = omega (arith, c.loop-i-test.false, c.loop-i.invariant.0) in
     fill_written (c.loop-i.invariant.3 _ on).2 q c.requires.end_le_points.1

@@ -12,12 +12,12 @@ use Rattle.forward.proofs.write_forward.Given as goal
 abbrev pub invariant-loop-i : goal.invariant-loop-i
 invariant-loop-i l =
     (l.i ≤ l.end)
-    × Behind (as_train l.train).stops l.swept.stop l.i
+    × Behind l.stops l.swept.stop l.i
     × (l.swept.drawn.w.0 ≤ 900000000)
-    × ((line : Line) → OnCourse line (as_train l.train) l.limits_at l.limits l.balises_at l.course l.bands l.end →
-    Nearing line (as_train l.train) l.i l.covered
-    × Before line (as_train l.train) l.i l.swept.drawn.w.0
-    × Filled (forward line (as_train l.train)) 0 l.i l.initial.speeds l.speeds)
+    × ((line : Line) → OnCourse line (as_train l.fn.train) l.course l.bands l.end →
+    Nearing line (as_train l.fn.train) l.i l.covered
+    × Before line (as_train l.fn.train) l.i l.swept.drawn.w.0
+    × Filled (forward line (as_train l.fn.train)) 0 l.i l.initial.speeds l.speeds)
 
 abbrev pub decreases-loop-i : goal.decreases-loop-i
 decreases-loop-i l =

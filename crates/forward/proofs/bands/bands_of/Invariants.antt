@@ -1,4 +1,4 @@
-use Prim.Native.Nat.{◌-◌, ◌≤◌}
+use Prim.Native.Nat.{◌≤◌}
 use Rattle.rules.specs.Count.{entry}
 use Rattle.rules.specs.Run.{squared, change}
 use Rattle.rules.proofs.Fill.{Filled}
@@ -6,8 +6,5 @@ use Rattle.forward.proofs.bands.bands_of.Given as goal
 
 abbrev pub invariant-loop-k : goal.invariant-loop-k
 invariant-loop-k l =
-    (l.k ≤ l.count) × (l.count ≤ 8) × Filled (λ j. change (entry l.train.rates j) l.line.step) 0 l.k l.initial.gains l.gains ×
+    (l.count ≤ 8) × Filled (λ j. change (entry l.train.rates j) l.line.step) 0 l.k l.initial.gains l.gains ×
     Filled (λ j. squared (entry l.train.tops j)) 0 l.k l.initial.squares l.squares
-
-abbrev pub decreases-loop-k : goal.decreases-loop-k
-decreases-loop-k l = l.count - l.k
