@@ -14,6 +14,7 @@ pub fn read_full<R: Read>(input: &mut R, part: &mut [u8]) -> io::Result<usize>
     ensures end { IfOk result (λ n. n < length part.new → IsAtEnd (R.remaining input.new)) }
 {
     let mut done = 0;
+    // A read gives as many bytes as it will, so no index is counted here; std's read_exact says nothing of an input that ends early.
     while done < part.len() {
         match input.read(&mut part[done..])? {
             0 => break,

@@ -1,5 +1,5 @@
 // What a buffer holds, in one number.
-ghost use Rattle.std.specs.Prelude.{◌≡◌, ◌≤◌, ◌<◌, ◌+◌, ℕ, length, map, fold, slice_get, Some, true, false};
+ghost use Rattle.std.specs.Prelude.{◌≡◌, ◌≤◌, ◌+◌, ℕ, length, map, fold, slice_get, Some, true, false};
 ghost use Rattle.cases.specs.Sums.{taken_in};
 
 // The sum with all the numbers taken in, in their order.
