@@ -62,7 +62,8 @@ pub(crate) fn bands_of(line: Line, train: Train) -> Bands
 }
 
 impl Bands {
-    // The greatest of the bands' parts, each the lesser of w with the gain and the square of the top.
+    // The greatest of the bands' parts, each the lesser of w with the gain and the square of the top. By numbers: in a chain over the gains and
+    // the squares the bound of the sum was not proved.
     fn greatest_part(&self, w: SquaredSpeed) -> SquaredSpeed
         requires { w.0 ≤ 900000000 }
         ensures { result.0 ≡ greatest_below self.now.count (λ k. min (w.0 + entry self.now.gains k) (entry self.now.squares k)) }
