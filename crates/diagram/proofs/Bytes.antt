@@ -4,13 +4,13 @@ use mathlib.Core.List.{List, [], ◌∷◌, ◌++◌, append_assoc, append-nil}
 use mathlib.Core.Logic.{⊎_elim}
 use mathlib.Core.Path.{◌≡◌, refl, sym, ap, ◌∙◌}
 use native.Mathlib.Nat.{div-one, div-div-eq-div-mul, pow-suc, pow-succ', eq-or-lt_of_le, mul-zero, mul-suc}
-use native.Mathlib.Numerals.{add-one}
 use native.Mathlib.Omega.{arith}
-use lib.ListN.{length, set, length-append, length-set}
+use lib.ListN.{length, set, length-append}
+use Rattle.std.specs.Int.{w64, byte_at, bytes_low_first, to_le_bytes}
 use Rattle.rules.specs.Calls.{written}
 use Rattle.rules.specs.Diagram.{low_first, from_low}
 use Rattle.rules.specs.Text.{joined}
-use Rattle.rules.proofs.Written.{written_none, written_one, written_then}
+use Rattle.rules.proofs.Written.{written_one, written_then}
 
 pub low_first-length : (k n : ℕ) → length (low_first k n) ≡ k
 unfolding low_first
@@ -38,28 +38,18 @@ written_next buffer at next xs x {after} e q h k =
     ∙ ap (λ (s : List ℕ). written s next (x ∷ [])) e
     ∙ written_then buffer at next xs (x ∷ []) q (omega arith)
 
--- so many bytes of n are written, and the rest of n is still to write
-pub record Begun (buffer : List ℕ) (at n i rest : ℕ) (after : List ℕ) : Type 0 where
-  pub long : length after ≡ length buffer
-  pub left : rest ≡ n / 256 ^ i
-  pub bytes : after ≡ written buffer at (low_first i n)
+-- the library's bytes of a number, from byte i on
+byte_is : (i n : ℕ) → byte_at i n ≡ n / 256 ^ i % 256
+byte_is zero n = rw div-one
+byte_is (suc i) n = refl
 
-pub begun-none : (buffer : List ℕ) (at n : ℕ) → Begun buffer at n 0 n buffer
+low_first-from : (i k n : ℕ) → bytes_low_first i k n ≡ low_first k (n / 256 ^ i)
 unfolding low_first
-begun-none buffer at n = record { long = refl; left = sym (div-one n); bytes = written_none buffer at }
+low_first-from i zero n = refl
+low_first-from i (suc k) n = rw (byte_is, low_first-from (suc i) k n, div-div-eq-div-mul, ← pow-suc)
 
-pub begun_next :
-    {buffer : List ℕ} {at n : ℕ} (i : ℕ) {rest : ℕ} {after : List ℕ} → Begun buffer at n i rest after → at + i < length buffer →
-    Begun buffer at n (i + 1) (rest / 256) (set after (at + i) (rest % 256))
-begun_next {buffer} {at} {n} i {rest} {after} b h =
-    let k : length (low_first i n) ≡ i = low_first-length i n in
-    record {
-      long = length-set after (at + i) (rest % 256) ∙ b.long;
-      left = rw (b.left, div-div-eq-div-mul, add-one, ← pow-suc);
-      bytes =
-          written_next buffer at (at + i) (low_first i n) (rest % 256) b.bytes (rw k) h (rw b.long h)
-          ∙ ap (written buffer at) (rw (b.left, add-one) (sym (low_first_more i n)));
-    }
+pub le_low_first : (n : ℕ) → to_le_bytes w64 n ≡ low_first 8 n
+le_low_first n = rw (low_first-from 0 8 n, div-one)
 
 -- ---- pieces one behind the other
 

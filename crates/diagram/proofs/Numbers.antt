@@ -1,32 +1,15 @@
--- The diagram call answers by the paper's list, and the number by tests in the code's order. Assumes nothing.
+-- The number of the diagram call by tests in the code's order. Assumes nothing.
 use Prim.Native.Nat.{ℕ, ◌*◌, ◌≤◌, ◌<◌}
 use mathlib.Core.List.{List, []}
 use mathlib.Core.Path.{◌≡◌, sym, ◌∙◌}
-use lib.ListN.{length}
 use borrow.Author.Tests.{le-leb, lt-leb}
 use Rattle.rules.specs.Calls.{train_refusal}
-use Rattle.rules.specs.Count.{or_zero}
-use Rattle.rules.specs.Diagram.{point_size, diagram_bytes, room_for_points, diagram_checks, diagram_refusal}
-use Rattle.rules.specs.Line.{line_of, train_of}
-use Rattle.rules.specs.Numbers.{AnswersBy}
-use Rattle.rules.specs.Refusal.{refusal}
+use Rattle.rules.specs.Diagram.{point_size, room_for_points, diagram_refusal}
+use Rattle.rules.specs.Line.{line_of}
 use Rattle.rules.proofs.Accepted.{train-first, train-passed}
-use Rattle.rules.proofs.Diagram.{judges_diagram}
-use Rattle.rules.proofs.Numbers.{answers_by}
 use Rattle.rules.proofs.Refusal.{refusal-none, head_broken, head_kept}
-use Rattle.text.specs.Text.{write_answer}
 
 module _ (file : List ℕ) (k : ℕ) where
-  abbrev figures : List ℕ
-  figures = diagram_bytes (line_of file) (train_of file k)
-
-  pub answer-number :
-      (bytes : ℕ) →
-      AnswersBy (diagram_checks file k bytes) (λ n. record { number = n; bytes = 0 }) (record { number = 0; bytes = length figures })
-      (write_answer (diagram_refusal file k bytes) figures)
-  unfolding refusal diagram_refusal write_answer
-  answer-number bytes = answers_by (λ o. write_answer (or_zero o) figures) (judges_diagram file k bytes)
-
   pub train_refuses : {n : ℕ} (bytes : ℕ) → n ≡ train_refusal file k → (n ≡ 0 → ⊥) → n ≡ diagram_refusal file k bytes
   unfolding diagram_refusal
   train_refuses bytes e h = e ∙ sym (train-first file k _ (λ z. h (e ∙ z)))

@@ -8,7 +8,7 @@ ghost use Rattle.rules.specs.Time.{root as root_of};
 ghost use Rattle.roots.specs.Root.{as_root};
 ghost use Rattle.diagram.specs.Points.{as_point, AreNumbers, points_of};
 
-use roots::{RootAnswer, dot, root, root_from};
+use roots::{RootAnswer, root, root_from};
 use values::SquaredSpeed;
 
 // The bytes of a record, and of a point: the record and its dot.
@@ -29,8 +29,8 @@ fn point_of(position: u32, speed: u32, arrival: u64) -> DiagramPoint
     ensures { (as_point result ≡ record_of position speed arrival) × AreNumbers result }
 {
     DiagramPoint {
-        position: position as f64,
-        speed: speed as f64,
+        position: f64::from(position),
+        speed: f64::from(speed),
         arrival: arrival as f64,
     }
 }
@@ -40,13 +40,7 @@ fn put_double(bytes: &mut [u8], at: usize, x: f64)
     requires { T (not (is_nan x)) × (at + 8 ≤ length bytes.old) }
     ensures { bytes.new ≡ written bytes.old at (double_bytes x) }
 {
-    let mut rest = f64::to_bits(x);
-    let mut i = 0;
-    while i < 8 {
-        bytes[at + i] = (rest % 256) as u8;
-        rest = rest / 256;
-        i += 1;
-    }
+    bytes[at..at + 8].copy_from_slice(&x.to_bits().to_le_bytes());
 }
 
 fn put_figures(bytes: &mut [u8], at: usize, point: DiagramPoint)
@@ -67,28 +61,20 @@ fn root_after(here: RootAnswer, w: SquaredSpeed) -> RootAnswer
 }
 
 // Each point, by its squared speed and its arrival. The points are a step apart.
-pub(crate) fn write_points(
-    points: usize,
-    step: u32,
-    speeds: &[u32],
-    times: &[u64],
-    bytes: &mut [u8],
-)
-    requires points_bound { (points ≤ 4096) × (step < 65536) × (points ≤ length speeds.now) × (points ≤ length times.now) }
-    requires by_index { (i : ℕ) → i < points → entry times.now i < 2 ^ 53 }
-    requires points_in_bounds { point_size * points ≤ length bytes.old }
-    ensures { bytes.new ≡ written bytes.old 0 (points_of points step speeds.now times.now) }
+pub(crate) fn write_points(step: u32, speeds: &[u32], times: &[u64], bytes: &mut [u8])
+    requires points_bound { (length speeds.now ≤ 4096) × (length times.now ≡ length speeds.now) × (step < 65536) }
+    requires small { (i : ℕ) → i < length speeds.now → entry times.now i < 2 ^ 53 }
+    requires points_in_bounds { point_size * length speeds.now ≤ length bytes.old }
+    ensures { bytes.new ≡ written bytes.old 0 (points_of (length speeds.now) step speeds.now times.now) }
 {
     let mut position = 0;
     let mut at = 0;
     let mut here = root(SquaredSpeed(0));
-    let mut i = 0;
-    while i < points {
-        here = root_after(here, SquaredSpeed(speeds[i]));
-        put_figures(bytes, at, point_of(position, here.speed.0, times[i]));
-        bytes[at + FIGURES_SIZE] = dot(here);
+    for (speed, time) in speeds.iter().zip(times) {
+        here = root_after(here, SquaredSpeed(*speed));
+        put_figures(bytes, at, point_of(position, here.speed.0, *time));
+        bytes[at + FIGURES_SIZE] = here.dot();
         position += step;
         at += POINT_SIZE;
-        i += 1;
     }
 }

@@ -1,7 +1,7 @@
 -- The trains of an accepted file, one after the other. Assumes nothing.
 use Prim.Native.Nat.{ℕ, suc, ◌+◌, ◌≤◌, ◌<◌}
 use mathlib.Core.List.{List}
-use mathlib.Core.Path.{◌≡◌, sym, ap, ◌∙◌}
+use mathlib.Core.Path.{◌≡◌, refl, sym, ap, ◌∙◌}
 use native.Mathlib.Numerals.{add-one}
 use native.Mathlib.Omega.{arith}
 use lib.ListN.{length}
@@ -17,6 +17,14 @@ use Rattle.rules.proofs.Answers.{Rest, rest-first, rest-here, rest_next}
 use Rattle.rules.proofs.Count.{within_holds}
 use Rattle.rules.proofs.Demand.{opened-fresh}
 use Rattle.rules.proofs.File.{length-words, part_from, part_is, part_next, part_inside, record_first, train-drop, trains-within}
+use Rattle.std.specs.Prelude.{Result, Ok, Err}
+use Rattle.std.specs.Result.{IsOk}
+use Rattle.refusals.specs.declared.Refusal.{Refusal}
+use Rattle.refusals.specs.Number.{refused_by}
+use Rattle.refusals.proofs.Passing.{accepted}
+use Rattle.holds.specs.declared.Sheet as sheets
+use Rattle.holds.specs.Values.{as_sheet}
+use Rattle.sheet.specs.Values.{as_opening}
 use Rattle.values.specs.declared.decoded.Line as decoded
 use Rattle.values.specs.Values.{as_line}
 use Rattle.reading.specs.Decoded.{decoded_line}
@@ -47,11 +55,22 @@ module _ (file : List ℕ) (ok : file_refusal file ≡ 0) where
     block-count = ap (λ (l : decoded.Line). l.block_count) same ∙ sym (length-words file _ _)
 
     -- the sheet that the first train is added to
-    pub sheet-opened : {x : Opening} → x ≡ opened line.block_count → x.sheet ≡ fresh (length (line_of file).block_starts)
-    sheet-opened e =
+    sheet_opened : opened line.block_count ≡ record { number = 0; sheet = fresh (length (line_of file).block_starts) }
+    sheet_opened =
         let sizes = line_sizes_lem file ok in
         let count = block-count in
-        rw (e, opened-fresh line.block_count (within_holds 1 32 _ (omega (arith, sizes.blocks-least)) (omega (arith, sizes.blocks-most))), count)
+        rw (opened-fresh line.block_count (within_holds 1 32 _ (omega (arith, sizes.blocks-least)) (omega (arith, sizes.blocks-most))), count)
+
+    pub opening_made : (x : Result sheets.Sheet Refusal) → as_opening x ≡ opened line.block_count → IsOk x
+    opening_made x e = accepted x (told x ∙ ap (λ (o : Opening). o.number) (e ∙ sheet_opened))
+      where
+        told : (x : Result sheets.Sheet Refusal) → refused_by x ≡ (as_opening x).number
+        told (Ok s) = refl
+        told (Err r) = refl
+
+    pub sheet-opened :
+        {x : Result sheets.Sheet Refusal} {s : sheets.Sheet} → x ≡ Ok s → as_opening x ≡ opened line.block_count → as_sheet s ≡ fresh (length (line_of file).block_starts)
+    sheet-opened q e = ap (λ (o : Opening). o.sheet) (rw q at e ∙ sheet_opened)
 
   pub through_first : {at : ℕ} {s : Sheet} → s ≡ fresh (length (line_of file).block_starts) → at ≡ trains_at file → Through file s at 0
   through_first e p =

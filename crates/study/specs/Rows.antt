@@ -1,5 +1,5 @@
 -- The columns of a file's sheet. Document 01 has no such call: its figures and numbers are the paper's, and 11 is said of the lent slices.
-use Rattle.std.specs.Prelude.{ℕ, ◌-◌, ◌≤◌, ◌<◌, cond, List, [], ◌∷◌, ◌++◌, ◌≡◌, leb, eqb, length, get_or}
+use Rattle.std.specs.Prelude.{ℕ, ◌-◌, ◌≤◌, ◌<◌, List, [], ◌∷◌, ◌++◌, ◌≡◌, leb, length, get_or}
 use Rattle.std.proofs.Math.Option.{none}
 use Rattle.rules.specs.Count.{◌and◌, entry, row}
 use Rattle.rules.specs.File.{train_count, band_count, stop_count}
@@ -11,7 +11,6 @@ use Rattle.rules.specs.Calls.{Answer, refused}
 use Rattle.rules.specs.Numbers.{Check, check, file_checks}
 use Rattle.rules.specs.Demand.{refusal_of, WithoutOverlap, NoneEarlier}
 use Rattle.rules.specs.Text.{start_of, block_of, holds_from, file_answers, running_time}
-use Rattle.study.specs.declared.RowsAnswer.{RowsAnswer}
 
 -- the record that the bytes begin with has no more bands and stops than an array has places
 pub record Decodes (bytes : List ℕ) : Type 0 where
@@ -55,10 +54,6 @@ rows_refusal file starts runs blocks =
 abbrev pub rows_checks : List ℕ → ℕ → ℕ → ℕ → List Check
 rows_checks file starts runs blocks =
     file_checks file ++ (check 11 ((train_count file ≤ starts) × (train_count file ≤ runs) × (train_count file ≤ blocks)) ∷ [])
-
--- the answer of a call that has this number of refusal, or 0, and this many trains
-unfoldable pub rows_answer : ℕ → ℕ → RowsAnswer
-rows_answer number trains = cond (eqb number 0) (record { number = 0; trains = trains }) (record { number = number; trains = 0 })
 
 -- ---- what the starts of an accepted file are
 

@@ -11,7 +11,8 @@ ghost use Rattle.study.specs.Rows.{Decodes, last_arrival};
 
 use holds::HoldRecord;
 use reading::decode_train;
-use sheet::Answer;
+use refusals::Refusal;
+use sheet::Added;
 use values::Line;
 
 // A train's hold record and its running time.
@@ -22,22 +23,16 @@ pub(crate) struct Timed {
 }
 
 // 0 of a refused addition, as in the rules.
-pub(crate) fn start_of(answer: Answer) -> u64
+pub(crate) fn start_of(answer: Result<Added, Refusal>) -> u64
     ensures { result ≡ start_of (as_answer answer) }
 {
-    match answer {
-        Answer::Accepted { start, block: _ } => start,
-        Answer::Refused(_) => 0,
-    }
+    answer.map_or(0, |added| added.start)
 }
 
-pub(crate) fn block_of(answer: Answer) -> u64
+pub(crate) fn block_of(answer: Result<Added, Refusal>) -> u64
     ensures { result ≡ block_of (as_answer answer) }
 {
-    match answer {
-        Answer::Accepted { start: _, block } => block,
-        Answer::Refused(_) => 0,
-    }
+    answer.map_or(0, |added| added.block)
 }
 
 // Runs and holds the train whose record the bytes begin with.
@@ -48,9 +43,8 @@ pub(crate) fn time_train(line: Line, bytes: &[u8], speeds: &mut [u32], times: &m
         × (result.run ≡ last_arrival (as_line line) (train_at bytes.now 0)) }
     ensures speeds_len_unchanged { (length speeds.new ≡ length speeds.old) × (length times.new ≡ length times.old) }
 {
-    let held = hold::hold_train(line, decode_train(bytes), speeds, times);
-    let hold = held.hold;
-    let last = line.points as usize - 1;
+    let hold = hold::hold_train(line, decode_train(bytes), speeds, times).unwrap();
+    let last = usize::from(line.points) - 1;
     Timed {
         hold,
         run: times[last],

@@ -1,4 +1,4 @@
--- A study answers by the paper's list and 11: what it says, and what it leaves in the lent bytes. Assumes nothing.
+-- A study answers by the paper's list and 11: its number, and what it leaves in the lent bytes. Assumes nothing.
 use Prim.Native.Nat.{ℕ}
 use mathlib.Core.List.{List, [], ◌∷◌, ◌++◌}
 use lib.Dec.{leb}
@@ -10,20 +10,11 @@ use Rattle.rules.specs.Numbers.{AnswersBy}
 use Rattle.rules.specs.Refusal.{rule, refusal, file_rules}
 use Rattle.rules.specs.Text.{sheet_text}
 use Rattle.rules.proofs.Numbers.{Judges, judges_none, judges_first, judges_file, answers_by}
-use Rattle.text.specs.Text.{write_answer}
 use Rattle.study_text.specs.Study.{study_refusal, study_checks}
 
 module _ (file : List ℕ) where
-  judges_study : (bytes : ℕ) → Judges (file_rules file ++ (rule 11 (leb (length (sheet_text file)) bytes) ∷ [])) (study_checks file bytes)
+  pub judges_study : (bytes : ℕ) → Judges (file_rules file ++ (rule 11 (leb (length (sheet_text file)) bytes) ∷ [])) (study_checks file bytes)
   judges_study bytes = judges_file file (judges_first (leb-true (length (sheet_text file)) bytes, le-leb (length (sheet_text file)) bytes) judges_none)
-
-  pub answer-number :
-      (bytes : ℕ) →
-      AnswersBy (study_checks file bytes) (λ n. record { number = n; bytes = 0 }) (record { number = 0; bytes = length (sheet_text file) })
-      (write_answer (study_refusal file bytes) (sheet_text file))
-  unfolding refusal study_refusal write_answer
-  answer-number bytes =
-      answers_by (λ o. write_answer (or_zero o) (sheet_text file)) (judges_study bytes)
 
   pub bytes-number :
       (buffer : List ℕ) →

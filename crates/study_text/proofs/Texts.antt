@@ -10,21 +10,22 @@ use lib.ListN.{length, take, replicate, length-replicate, get_or-replicate, get_
 use lib.Seq.{ext_get_or}
 use lib.Dec.{eqb}
 use borrow.Author.Tests.{le-leb, eqb-true}
+use Rattle.refusals.specs.declared.Refusal.{Refusal}
+use Rattle.refusals.specs.Number.{number}
+use Rattle.refusals.proofs.Passing.{numbered}
 use Rattle.rules.specs.Calls.{written, lent_after, file_refusal}
 use Rattle.rules.specs.Count.{entry, row, padded}
 use Rattle.rules.specs.File.{train_count}
 use Rattle.rules.specs.Meaning.{IsWritten}
 use Rattle.rules.specs.Text.{refusal_text, line_of_train, running_time, sheet_text, program_text}
 use Rattle.rules.proofs.Accepted.{file_first, file_passed, file_most, line_sizes_lem}
-use Rattle.rules.proofs.Calls.{written_is, lent_written}
+use Rattle.rules.proofs.Calls.{written_is, lent_written, lent_kept}
 use Rattle.rules.proofs.Count.{length-row, entry_row}
 use Rattle.rules.proofs.Refusal.{refusal-none, head_kept}
 use Rattle.rules.proofs.Room.{text_most}
 use Rattle.rules.proofs.Text.{text_accepted, text_refused, program_long, program_whole}
 use Rattle.rules.proofs.Written.{written_long, row_taken}
-use Rattle.text.specs.declared.WriteAnswer.{WriteAnswer}
-use Rattle.text.specs.Text.{write_answer, line_at, rows_text, equal_counts, room_refusal, sheet_refusal}
-use Rattle.text.proofs.Room.{answer-written}
+use Rattle.text.specs.Text.{line_at, rows_text, equal_counts, room_refusal, sheet_refusal}
 use Rattle.text.proofs.Rows.{counts_equal, rows-joined, counts_kept}
 use Rattle.study.specs.Rows.{start_at, block_at, starts_of, runs_of, blocks_of, rows_refusal, LeastForFile}
 use Rattle.study.proofs.Numbers.{rows-refused, rows_long}
@@ -98,12 +99,12 @@ module _ (file : List ℕ) (ok : file_refusal file ≡ 0) where
     least_kept h = rw columns.0 at (rw (← q) at h)
 
     module _ (buffer : List ℕ) where
-      pub study_answer :
-          {x : WriteAnswer} →
-          x ≡ write_answer (sheet_refusal (take t starts) (take t runs) (take t blocks) (length buffer))
-          (rows_text (take t starts) (take t runs) (take t blocks)) →
-          x ≡ write_answer (study_refusal file (length buffer)) (sheet_text file)
-      study_answer f = f ∙ rw (columns.0, columns.1, columns.2, sheet-number (length buffer), rows_text_lem)
+      pub study-number :
+          {n : ℕ} → n ≡ sheet_refusal (take t starts) (take t runs) (take t blocks) (length buffer) → n ≡ study_refusal file (length buffer)
+      study-number f = f ∙ rw (columns.0, columns.1, columns.2, sheet-number (length buffer))
+
+      pub study-count : {bytes : ℕ} → bytes ≡ length (rows_text (take t starts) (take t runs) (take t blocks)) → bytes ≡ length (sheet_text file)
+      study-count f = f ∙ rw (columns.0, columns.1, columns.2, rows_text_lem)
 
       pub study_bytes :
           {after : List ℕ} →
@@ -111,6 +112,10 @@ module _ (file : List ℕ) (ok : file_refusal file ≡ 0) where
           (rows_text (take t starts) (take t runs) (take t blocks)) buffer →
           after ≡ lent_after (study_refusal file (length buffer)) (sheet_text file) buffer
       study_bytes f = f ∙ rw (columns.0, columns.1, columns.2, sheet-number (length buffer), rows_text_lem)
+
+-- a refusal leaves the lent bytes
+pub left : (text buffer : List ℕ) (r : Refusal) {told : ℕ} → number r ≡ told → buffer ≡ lent_after told text buffer
+left text buffer r e = rw (← e) (sym (lent_kept text buffer (numbered r)))
 
 -- ---- a text written into zeros
 
@@ -137,18 +142,7 @@ module _ (text : List ℕ) (m : ℕ) (h : length text ≤ m) where
           w.behind k (rw zero-add (omega arith)) ∙ get_or-replicate m k 0 0 g
           ∙ sym (entry_row (entry text) m k g ∙ get_or-eq_default text 0 (omega arith))
 
-  pub counted : {x : WriteAnswer} {n : ℕ} → n ≡ 0 → x ≡ write_answer n text → x.bytes ≡ length text
-  counted z e = rw (e, z, answer-written text)
-
 -- ---- what the program prints
-
-pub number_told : {x : WriteAnswer} (n : ℕ) (text : List ℕ) → x ≡ write_answer n text → x.number ≡ n
-unfolding write_answer
-number_told {x} n text e = ap (λ (x : WriteAnswer). x.number) e ∙ go (eqb n 0) refl
-  where
-    go : (b : Bool) → eqb n 0 ≡ b → (write_answer n text).number ≡ n
-    go true q = rw q (sym (eqb-true n 0 q))
-    go false q = rw q
 
 module _ (input : List ℕ) where
   -- input above the bound, a refused file, and an accepted one
@@ -171,10 +165,10 @@ module _ (input : List ℕ) where
                 let short : length (sheet_text input) ≤ m = omega (arith, text_most input ok) in
                 rw length-replicate at (room_kept (sheet_text input) m short)
 
-    pub refused_printed : {n : ℕ} → n ≡ study_refusal input m → (n ≡ 0 → ⊥) → (n ≤ 99) × (refusal_text n ≡ program_text input)
-    refused_printed {n} e h =
-        let same : n ≡ file_refusal input = e ∙ told in
-        (omega (arith, file_most input), ap refusal_text same ∙ sym (program_whole input le ∙ text_refused input (λ z. h (same ∙ z))))
+    pub refused_printed : (r : Refusal) → number r ≡ study_refusal input m → refusal_text (number r) ≡ program_text input
+    refused_printed r e =
+        let same : number r ≡ file_refusal input = e ∙ told in
+        ap refusal_text same ∙ sym (program_whole input le ∙ text_refused input (λ z. numbered r (same ∙ z)))
 
-    pub sheet_printed : {n : ℕ} → n ≡ study_refusal input m → n ≡ 0 → (length (sheet_text input) ≤ 2390) × (sheet_text input ≡ program_text input)
-    sheet_printed e z = (text_most input (sym told ∙ sym e ∙ z), sym (program_whole input le))
+    pub sheet_printed : 0 ≡ study_refusal input m → (length (sheet_text input) ≤ 2390) × (sheet_text input ≡ program_text input)
+    sheet_printed e = (text_most input (sym told ∙ sym e), sym (program_whole input le))

@@ -1,32 +1,35 @@
-use mathlib.Core.Path.{◌≡◌, ap, ◌∙◌}
-use native.Mathlib.Omega.{arith}
+use Rattle.std.proofs.Common.{◌∙◌, ap, sym, arith, length-take-le}
+use Rattle.refusals.proofs.Passing.{accepted}
 use Rattle.rules.specs.Admitted.{Admitted}
 use Rattle.rules.specs.Calls.{written}
 use Rattle.rules.proofs.Accepted.{on_admitted}
 use Rattle.values.specs.Values.{as_line, as_train}
 use Rattle.values.proofs.Parallel.{decoded_parallel}
-use Rattle.diagram.proofs.Rows.{speeds_front, times_front, times_small, points_run}
+use Rattle.diagram.proofs.Rows.{long, ran, times_small, points_run}
 use Rattle.diagram.proofs.write_diagram.Goals as goal
+
+pub unwrap-requires : goal.unwrap-requires
+unwrap-requires c =
+    let admitted : Admitted (as_line c.args.line) (as_train c.args.train) = on_admitted _ _ c.requires.0 (decoded_parallel c.args.line c.args.train) in
+    accepted _ (c.run_train.ensures.refusal ∙ ran _ _ admitted c.requires.0)
 
 pub write_points-requires : goal.write_points-requires
 write_points-requires c =
-    let admitted : Admitted (as_line c.args.line) (as_train c.args.train) = (on_admitted _ _ c.requires.0 (decoded_parallel c.args.line c.args.train)) in
-    let points : c.size-points.result ≡ c.args.line.points = (c.size-points.ensures.0) in
-    let run = c.run_train.ensures in record {
-      points_bound = (
-        omega (arith, points, admitted.rule3_line.points-most),
-        c.wide.ensures.1,
-        (speeds_front _ _ admitted c.requires.0 points run.speeds run.times).1,
-        (times_front _ _ admitted c.requires.0 points run.speeds run.times).1,
-      );
-      by_index = times_small _ _ admitted c.requires.0 points run.speeds run.times;
-      points_in_bounds = omega (arith, points, c.requires.1);
+    let admitted : Admitted (as_line c.args.line) (as_train c.args.train) = on_admitted _ _ c.requires.0 (decoded_parallel c.args.line c.args.train) in
+    let run = c.run_train.ensures in
+    let rows = long _ _ admitted c.requires.0 c.from-points.ensures run.speeds run.times in
+    let speeds = length-take-le _ _ rows.0 in
+    let times = length-take-le _ _ rows.1 in
+    record {
+      points_bound = (omega (arith, speeds, c.from-points.ensures, admitted.rule3_line.points-most), times ∙ sym speeds, omega (arith, c.from.ensures));
+      small = λ i h. times_small _ _ admitted c.requires.0 c.from-points.ensures run.speeds run.times i (rw speeds at h);
+      points_in_bounds = rw speeds (omega (arith, c.from-points.ensures, c.requires.1));
     }
 
 pub returns : goal.returns
 returns c =
-    let admitted : Admitted (as_line c.args.line) (as_train c.args.train) = (on_admitted _ _ c.requires.0 (decoded_parallel c.args.line c.args.train)) in
-    let points : c.size-points.result ≡ c.args.line.points = (c.size-points.ensures.0) in
+    let admitted : Admitted (as_line c.args.line) (as_train c.args.train) = on_admitted _ _ c.requires.0 (decoded_parallel c.args.line c.args.train) in
     let run = c.run_train.ensures in
-    let drawn = points_run _ _ admitted c.requires.0 points run.speeds run.times c.wide.ensures.0 in
-    c.write_points.ensures ∙ ap (written c.args.bytes.now 0) drawn
+    let rows = long _ _ admitted c.requires.0 c.from-points.ensures run.speeds run.times in
+    let drawn = points_run _ _ admitted c.requires.0 c.from-points.ensures run.speeds run.times c.from.ensures in
+    c.write_points.ensures ∙ ap (written c.args.bytes.now 0) (rw (length-take-le _ _ rows.0) drawn)

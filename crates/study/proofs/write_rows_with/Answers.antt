@@ -1,23 +1,30 @@
-use Prim.Native.Nat.{◌<◌}
-use mathlib.Core.Path.{◌≡◌, refl, ap, ◌∙◌}
-use native.Mathlib.Numerals.{add-one}
-use native.Mathlib.Omega.{arith}
+use Rattle.std.proofs.Common.{◌≡◌, ◌<◌, ℕ, List, refl, ap, ◌∙◌, arith, add-one}
 use Rattle.rules.specs.File.{train_count}
 use Rattle.rules.specs.Text.{start_of, block_of}
 use Rattle.rules.proofs.Accepted.{file_there}
 use Rattle.rules.proofs.File.{part_inside}
 use Rattle.rules.proofs.Fill.{fill_none, fill_up}
 use Rattle.rules.proofs.Written.{fill_written}
-use Rattle.reading.specs.Decoded.{decoded_line}
-use Rattle.line.proofs.Opening.{file_number, file_trains, file_place, file_line}
-use Rattle.study.proofs.Through.{few_trains, sheet-opened, through_first, next_admitted, next_decodes, next_run, next_answer}
+use Rattle.reading.specs.declared.decode.DecodedFile.{DecodedFile}
+use Rattle.reading.specs.Decoded.{decoded_line, decoded_file}
+use Rattle.study.proofs.Through.{opening_made, sheet-opened, through_first, next_admitted, next_decodes, next_run, next_answer}
 use Rattle.study.proofs.Through.{through_next}
 use Rattle.study.proofs.write_rows_with.Goals as goal
 
+-- the line, the place of the first train and the count of trains
+line_of_file : (file : List ℕ) {d : DecodedFile} → d ≡ decoded_file file → d.line ≡ decoded_line file
+line_of_file file e = ap (λ (d : DecodedFile). d.line) e
+
+count_of_file : (file : List ℕ) {d : DecodedFile} → d ≡ decoded_file file → d.trains ≡ train_count file
+count_of_file file e = ap (λ (d : DecodedFile). d.trains) e
+
+pub unwrap-sheet-requires : goal.unwrap-sheet-requires
+unwrap-sheet-requires c = opening_made _ c.requires.file_value.0 (line_of_file _ c.requires.file_value.1) _ c.open_sheet.ensures.sheet
+
 pub loop-k-init : goal.loop-k-init
 loop-k-init c = let ok = c.requires.file_value.0 in
-    let z = file_number _ c.requires.file_value.1 ∙ ok in (
-      through_first _ ok (sheet-opened _ ok (file_line _ c.requires.file_value.1 z) c.open_sheet.ensures.sheet) (file_place _ c.requires.file_value.1 z),
+    let line = line_of_file _ c.requires.file_value.1 in (
+      through_first _ ok (sheet-opened _ ok line c.unwrap-sheet.ensures c.open_sheet.ensures.sheet) (ap (λ (d : DecodedFile). d.at) c.requires.file_value.1),
       (refl, refl),
       (fill_none _ 0 _, fill_none _ 0 _, fill_none _ 0 _),
     )
@@ -30,46 +37,22 @@ slice_bounds-time_train-start c = omega (arith, c.loop-k.invariant.0.within)
 
 pub time_train-timed-requires : goal.time_train-timed-requires
 time_train-timed-requires c =
-    let line : c.args.opened.line ≡ decoded_line c.args.file.now = (file_line _ c.requires.file_value.1 (file_number _ c.requires.file_value.1 ∙ c.requires.file_value.0)) in
-    let more : c.loop-k.k < train_count c.args.file.now = (omega (arith, file_trains _ c.requires.file_value.1 (file_number _ c.requires.file_value.1 ∙ c.requires.file_value.0), c.loop-k-test.true)) in
+    let line = line_of_file _ c.requires.file_value.1 in
+    let more : c.loop-k.k < train_count c.args.file.now = omega (arith, count_of_file _ c.requires.file_value.1, c.loop-k-test.true) in
     let i = c.loop-k.invariant in
     let ok = c.requires.file_value.0 in record {
       admitted = (next_admitted _ ok i.0 more line, next_decodes _ ok i.0 more line);
       points_in_bounds = (omega (arith, i.1.0, c.requires.points_in_bounds.0), omega (arith, i.1.1, c.requires.points_in_bounds.1));
     }
 
-pub offset_bounds-starts-k : goal.offset_bounds-starts-k
-offset_bounds-starts-k c =
-    let more : c.loop-k.k < train_count c.args.file.now = (omega (arith, file_trains _ c.requires.file_value.1 (file_number _ c.requires.file_value.1 ∙ c.requires.file_value.0), c.loop-k-test.true)) in
-    let room : c.loop-k.k < 64 = (omega (arith, more, few_trains _ c.requires.file_value.0)) in
-    omega (arith, room)
-
 pub bounds-starts-k : goal.bounds-starts-k
-bounds-starts-k c =
-    let more : c.loop-k.k < train_count c.args.file.now = (omega (arith, file_trains _ c.requires.file_value.1 (file_number _ c.requires.file_value.1 ∙ c.requires.file_value.0), c.loop-k-test.true)) in
-    omega (arith, more, c.requires.file_in_bounds.0, c.loop-k.invariant.2.0.long)
-
-pub offset_bounds-runs-k : goal.offset_bounds-runs-k
-offset_bounds-runs-k c =
-    let more : c.loop-k.k < train_count c.args.file.now = (omega (arith, file_trains _ c.requires.file_value.1 (file_number _ c.requires.file_value.1 ∙ c.requires.file_value.0), c.loop-k-test.true)) in
-    let room : c.loop-k.k < 64 = (omega (arith, more, few_trains _ c.requires.file_value.0)) in
-    omega (arith, room)
+bounds-starts-k c = omega (arith, count_of_file _ c.requires.file_value.1, c.loop-k-test.true, c.requires.file_in_bounds.0, c.loop-k.invariant.2.0.long)
 
 pub bounds-runs-k : goal.bounds-runs-k
-bounds-runs-k c =
-    let more : c.loop-k.k < train_count c.args.file.now = (omega (arith, file_trains _ c.requires.file_value.1 (file_number _ c.requires.file_value.1 ∙ c.requires.file_value.0), c.loop-k-test.true)) in
-    omega (arith, more, c.requires.file_in_bounds.1, c.loop-k.invariant.2.1.long)
-
-pub offset_bounds-blocks-k : goal.offset_bounds-blocks-k
-offset_bounds-blocks-k c =
-    let more : c.loop-k.k < train_count c.args.file.now = (omega (arith, file_trains _ c.requires.file_value.1 (file_number _ c.requires.file_value.1 ∙ c.requires.file_value.0), c.loop-k-test.true)) in
-    let room : c.loop-k.k < 64 = (omega (arith, more, few_trains _ c.requires.file_value.0)) in
-    omega (arith, room)
+bounds-runs-k c = omega (arith, count_of_file _ c.requires.file_value.1, c.loop-k-test.true, c.requires.file_in_bounds.1, c.loop-k.invariant.2.1.long)
 
 pub bounds-blocks-k : goal.bounds-blocks-k
-bounds-blocks-k c =
-    let more : c.loop-k.k < train_count c.args.file.now = (omega (arith, file_trains _ c.requires.file_value.1 (file_number _ c.requires.file_value.1 ∙ c.requires.file_value.0), c.loop-k-test.true)) in
-    omega (arith, more, c.requires.file_in_bounds.2, c.loop-k.invariant.2.2.long)
+bounds-blocks-k c = omega (arith, count_of_file _ c.requires.file_value.1, c.loop-k-test.true, c.requires.file_in_bounds.2, c.loop-k.invariant.2.2.long)
 
 pub slice_bounds-record_size-count : goal.slice_bounds-record_size-count
 slice_bounds-record_size-count c = omega (arith, c.loop-k.invariant.0.within)
@@ -79,30 +62,21 @@ slice_bounds-record_size-start c = omega (arith, c.loop-k.invariant.0.within)
 
 pub overflow_add-at : goal.overflow_add-at
 overflow_add-at c =
-    let more : c.loop-k.k < train_count c.args.file.now = (omega (arith, file_trains _ c.requires.file_value.1 (file_number _ c.requires.file_value.1 ∙ c.requires.file_value.0), c.loop-k-test.true)) in
+    let more : c.loop-k.k < train_count c.args.file.now = omega (arith, count_of_file _ c.requires.file_value.1, c.loop-k-test.true) in
     let i = c.loop-k.invariant.0 in
     omega (arith, part_inside _ _ _ i.place c.record_size-at.ensures.0 more, file_there _ c.requires.file_value.0)
 
-pub overflow_add-k : goal.overflow_add-k
-overflow_add-k c =
-    let more : c.loop-k.k < train_count c.args.file.now = (omega (arith, file_trains _ c.requires.file_value.1 (file_number _ c.requires.file_value.1 ∙ c.requires.file_value.0), c.loop-k-test.true)) in
-    let room : c.loop-k.k < 64 = (omega (arith, more, few_trains _ c.requires.file_value.0)) in
-    omega (arith, room)
-
-pub loop-k-smaller : goal.loop-k-smaller
-loop-k-smaller c = omega (arith, c.loop-k-test.true)
-
 pub loop-k-preserved : goal.loop-k-preserved
 loop-k-preserved c =
-    let line : c.args.opened.line ≡ decoded_line c.args.file.now = (file_line _ c.requires.file_value.1 (file_number _ c.requires.file_value.1 ∙ c.requires.file_value.0)) in
-    let more : c.loop-k.k < train_count c.args.file.now = (omega (arith, file_trains _ c.requires.file_value.1 (file_number _ c.requires.file_value.1 ∙ c.requires.file_value.0), c.loop-k-test.true)) in
+    let line = line_of_file _ c.requires.file_value.1 in
+    let more : c.loop-k.k < train_count c.args.file.now = omega (arith, count_of_file _ c.requires.file_value.1, c.loop-k-test.true) in
     let ok = c.requires.file_value.0 in
     let l = c.loop-k in
     let i = l.invariant in
     let e = c.time_train-timed.ensures in
-    let answer = next_answer _ ok i.0 more line e.hold_value.0 c.with_hold-added.ensures in
+    let answer = next_answer _ ok i.0 more line e.hold_value.0 c.add-answer.ensures in
     let step = add-one l.k in (
-      through_next _ ok i.0 more line e.hold_value.0 c.with_hold-added.ensures c.record_size-at.ensures.0 refl,
+      through_next _ ok i.0 more line e.hold_value.0 c.add-answer.ensures c.record_size-at.ensures.0 refl,
       (e.speeds_len_unchanged.0 ∙ i.1.0, e.speeds_len_unchanged.1 ∙ i.1.1),
       (
         fill_up i.2.0 (omega arith) step (omega (arith, more, c.requires.file_in_bounds.0)) (c.start_of.ensures ∙ ap start_of answer),
@@ -127,8 +101,8 @@ pub shape_of-blocks : goal.shape_of-blocks
 shape_of-blocks c = c.loop-k.invariant.2.2.long
 
 pub returns : goal.returns
-returns c = let count = file_trains _ c.requires.file_value.1 (file_number _ c.requires.file_value.1 ∙ c.requires.file_value.0) in
-    let all : c.loop-k.k ≡ train_count c.args.file.now = omega (arith, count, c.loop-k-test.false, c.loop-k.invariant.0.few) in (
+returns c =
+    let all : c.loop-k.k ≡ train_count c.args.file.now = omega (arith, count_of_file _ c.requires.file_value.1, c.loop-k-test.false, c.loop-k.invariant.0.few) in (
       fill_written c.loop-k.invariant.2.0 all c.requires.file_in_bounds.0,
       fill_written c.loop-k.invariant.2.1 all c.requires.file_in_bounds.1,
       fill_written c.loop-k.invariant.2.2 all c.requires.file_in_bounds.2,

@@ -1,9 +1,7 @@
-use Prim.Native.Nat.{◌-◌}
-use mathlib.Core.Path.{◌≡◌}
-use lib.ListN.{length}
+use Rattle.std.proofs.Common.{◌≡◌, length}
 use Rattle.rules.specs.Text.{running_time}
 use Rattle.rules.proofs.Fill.{Filled}
-use Rattle.sheet.specs.Values.{as_sheet}
+use Rattle.holds.specs.Values.{as_sheet}
 use Rattle.study.specs.Rows.{start_at, block_at}
 use Rattle.study.proofs.Through.{Through}
 use Rattle.study.proofs.write_rows_with.Given as goal
@@ -13,7 +11,3 @@ invariant-loop-k l =
     Through l.file (as_sheet l.sheet) l.at l.k
     × ((length l.speeds ≡ length l.initial.speeds) × (length l.times ≡ length l.initial.times))
     × (Filled (start_at l.file) 0 l.k l.initial.starts l.starts × Filled (running_time l.file) 0 l.k l.initial.runs l.runs × Filled (block_at l.file) 0 l.k l.initial.blocks l.blocks)
-
-abbrev pub decreases-loop-k : goal.decreases-loop-k
-decreases-loop-k l =
-    l.opened.trains - l.k

@@ -1,19 +1,15 @@
-use mathlib.Core.Path.{◌≡◌}
-use native.Mathlib.Omega.{arith}
+use Rattle.std.proofs.lemmas.Grind.{common_steps}
+use Rattle.std.proofs.Common.{◌≡◌, arith, ◌∙◌}
+use Rattle.rules.specs.Calls.{written}
 use Rattle.rules.specs.Diagram.{double_bytes}
-use Rattle.diagram.proofs.Bytes.{begun-none, begun_next}
+use Rattle.diagram.proofs.Bytes.{le_low_first}
+use Rattle.diagram.proofs.Doubles.{double-bytes}
 use Rattle.diagram.proofs.points.put_double.Goals as goal
 
-pub loop-i-init : goal.loop-i-init
-loop-i-init c = (omega arith, begun-none _ _ _)
-
-pub loop-i-preserved : goal.loop-i-preserved
-loop-i-preserved c = let l = c.loop-i in
-    (omega arith, begun_next l.i l.invariant.1 (omega arith))
-
-pub shape_of-bytes : goal.shape_of-bytes
-shape_of-bytes c = c.loop-i.invariant.1.long
-
 pub returns : goal.returns
-unfolding double_bytes
-returns c = let done : c.loop-i.i ≡ 8 = omega arith in rw done at c.loop-i.invariant.1.bytes
+unfolding written double_bytes
+returns c =
+    let a = c.args in
+    let long = double-bytes a.x in
+    let bytes : c.copy_from_slice.new.self ≡ double_bytes a.x = c.copy_from_slice.ensures.after ∙ c.to_le_bytes.ensures ∙ le_low_first _ in
+    grind (arith, common_steps, bytes, long)
