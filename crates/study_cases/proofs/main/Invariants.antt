@@ -1,5 +1,0 @@
-use Rattle.std.proofs.Common.{◌-◌}
-use Rattle.study_cases.proofs.main.Given as goal
-
-abbrev pub decreases-loop-cases : goal.decreases-loop-cases
-decreases-loop-cases l = 100000 - l.cases

@@ -1,9 +1,0 @@
--- The index goes down to 0.
-use Rattle.std.proofs.Common.{◌≤◌}
-use Rattle.study_cases.proofs.number_of.Given as goal
-
-abbrev pub invariant-loop-i : goal.invariant-loop-i
-invariant-loop-i l = l.i ≤ 8
-
-abbrev pub decreases-loop-i : goal.decreases-loop-i
-decreases-loop-i l = l.i
