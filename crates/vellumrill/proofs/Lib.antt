@@ -1,1 +1,1 @@
-pub mod FileSizes
+pub mod Told

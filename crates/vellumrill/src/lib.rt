@@ -1,6 +1,8 @@
 // The calls for C and Rust, which the crate vellumrill_c exports. Number 0 means accepted.
 #![tactic(auto)]
 
+mod answers;
+
 ghost use Rattle.std.specs.Prelude.{◌≡◌, length, take};
 ghost use Rattle.rules.specs.Calls.{lent_after, file_refusal, train_refusal, record_place, run_refusal, speeds_after, times_after, held, opened, added};
 ghost use Rattle.rules.specs.Calls.{headway};
@@ -12,73 +14,48 @@ ghost use Rattle.rules.specs.Path.{path_answer, RightPath};
 ghost use Rattle.rules.specs.Period.{period_answer, HourPattern};
 ghost use Rattle.rules.specs.Text.{sheet_text};
 ghost use Rattle.rules.specs.Time.{FastestRun};
-ghost use Rattle.hold.specs.Calls.{as_hold_answer};
-ghost use Rattle.holds.specs.Values.{as_hold};
-ghost use Rattle.line.specs.Answers.{as_record_place};
-ghost use Rattle.path.specs.Values.{as_path_answer};
+ghost use Rattle.holds.specs.Values.{as_hold, as_sheet};
 ghost use Rattle.path_judging.specs.Rows.{placed_rows};
-ghost use Rattle.sheet.specs.Values.{as_sheet, as_period_answer};
-ghost use Rattle.study.specs.Rows.{starts_of, runs_of, blocks_of, rows_refusal, rows_answer, LeastForFile};
+ghost use Rattle.study.specs.Rows.{starts_of, runs_of, blocks_of, rows_refusal, LeastForFile};
 ghost use Rattle.study_text.specs.Study.{study_refusal};
-ghost use Rattle.text.specs.Text.{write_answer};
-ghost use Rattle.sheet_answers.specs.Answers.{opened_into, added_by_number, headway_by_number};
-ghost use Rattle.vellumrill.specs.Answers.{file_sizes};
+ghost use Rattle.sheet_answers.specs.Answers.{opened_into, added_by_number, headway_by_number, as_period_answer};
+ghost use Rattle.vellumrill.specs.Answers.{as_record_place, file_sizes, as_hold_answer, as_path_answer, rows_answer, write_answer};
 
-use hold::HoldAnswer;
-use holds::HoldRecord;
-use line::RecordPlace;
-use path::PathAnswer;
-use sheet::{PeriodAnswer, Sheet};
-use sheet_answers::{Added, HeadwayAnswer, headway_by_number, opened_over, step_by_number};
-use study::RowsAnswer;
-use text::WriteAnswer;
-use widths::wide64;
-
-// P, L in m, B and T, all 0 on a refusal.
-#[repr(C)]
-#[derive(Clone, Copy)]
-pub struct Sizes {
-    pub number: u64,
-    pub points: u64,
-    pub step: u64,
-    pub blocks: u64,
-    pub trains: u64,
-}
+pub use answers::{HoldAnswer, PathAnswer, RecordPlace, RowsAnswer, Sizes, WriteAnswer};
+use holds::{HoldRecord, Sheet};
+use path_judging::PlacedRows;
+use refusals::number_of;
+use sheet_answers::{
+    AddAnswer, HeadwayAnswer, PeriodAnswer, add_by_number, headway_by_number, open_by_number,
+    period_by_number,
+};
 
 // The file's rules.
 pub fn vr_check_file(file: &[u8]) -> u64
     ensures { result ≡ file_refusal file.now }
 {
-    line::check_file(file)
+    number_of(line::check_file(file))
 }
 
 // The file's rules and 10.
 pub fn vr_check_train(file: &[u8], k: u64) -> u64
     ensures { result ≡ train_refusal file.now k }
 {
-    line::check_train(file, k)
+    number_of(line::check_train(file, k))
 }
 
 // The file's rules and 10. The record of train k is the part of the file that begins at byte `start` and has `length` bytes; 0 and 0 on a refusal.
 pub fn vr_train_record(file: &[u8], k: u64) -> RecordPlace
     ensures { as_record_place result ≡ record_place file.now k }
 {
-    line::record_place(file, k)
+    line::record_place(file, k).into()
 }
 
 // The sizes of an accepted file, by the file's rules.
 pub fn vr_sizes(file: &[u8]) -> Sizes
     ensures { result ≡ file_sizes file.now }
 {
-    let opened = line::open_file(file);
-    let line = opened.line;
-    Sizes {
-        number: opened.number,
-        points: wide64(line.points),
-        step: wide64(line.step),
-        blocks: line.block_count as u64,
-        trains: opened.trains as u64,
-    }
+    line::open_file(file).into()
 }
 
 // The run call, by the file's rules, 10 and 11. Of an accepted call the first P entries of `speeds` are the run, those of `times` its arrivals; no permitted
@@ -91,7 +68,7 @@ pub fn vr_run(file: &[u8], k: u64, speeds: &mut [u32], times: &mut [u64]) -> u64
         FastestRun (line_of file.now) (train_of file.now k) (take (point_count file.now) speeds.new)
         (take (point_count file.now) times.new) }
 {
-    run::run(file, k, speeds, times)
+    number_of(run::run(file, k, speeds, times))
 }
 
 // The hold call, by the file's rules, 10 and 11. The buffers end as after the run call.
@@ -100,7 +77,7 @@ pub fn vr_hold(file: &[u8], k: u64, speeds: &mut [u32], times: &mut [u64]) -> Ho
     ensures speeds { speeds.new ≡ speeds_after file.now k speeds.old times.old }
     ensures times { times.new ≡ times_after file.now k speeds.old times.old }
 {
-    hold::hold(file, k, speeds, times)
+    hold::hold(file, k, speeds, times).into()
 }
 
 // Opens a sheet where it lies, rule 12. Every list of adding calls from it meets the third demand. A refusal leaves the sheet as it was.
@@ -109,31 +86,22 @@ pub fn vr_open(blocks: u64, sheet: &mut Sheet) -> u64
         × (as_sheet sheet.new ≡ opened_into blocks (as_sheet sheet.old))
         × (result ≡ 0 → ThirdDemand blocks (as_sheet sheet.new)) }
 {
-    let before = *sheet;
-    let opening = opened_over(blocks, before);
-    *sheet = opening.sheet;
-    opening.number
+    open_by_number(blocks, sheet)
 }
 
 // The adding call, rules 12 to 14, on a sheet with any contents. The sheet is altered where it lies; a refusal leaves it as it was.
-pub fn vr_add(sheet: &mut Sheet, hold: &HoldRecord) -> Added
+pub fn vr_add(sheet: &mut Sheet, hold: &HoldRecord) -> AddAnswer
     ensures { (result ≡ added_by_number (added (as_sheet sheet.old) (as_hold hold.now)).answer)
         × (as_sheet sheet.new ≡ (added (as_sheet sheet.old) (as_hold hold.now)).sheet) }
 {
-    let before = *sheet;
-    let record = *hold;
-    let step = step_by_number(before, record);
-    *sheet = step.sheet;
-    step.answer
+    add_by_number(sheet, *hold)
 }
 
 // The second train's start on a sheet of these two, rules 12 to 14.
 pub fn vr_headway(first: &HoldRecord, second: &HoldRecord) -> HeadwayAnswer
     ensures { result ≡ headway_by_number (headway (as_hold first.now) (as_hold second.now)) }
 {
-    let earlier = *first;
-    let later = *second;
-    headway_by_number(earlier, later)
+    headway_by_number(*first, *second)
 }
 
 // The shortest period with which a sheet is repeated, and its percentage of an hour, on a sheet with any contents: rule 12.
@@ -141,8 +109,7 @@ pub fn vr_period(sheet: &Sheet) -> PeriodAnswer
     ensures { (as_period_answer result ≡ period_answer (as_sheet sheet.now))
         × HourPattern (as_sheet sheet.now) (as_period_answer result) }
 {
-    let present = *sheet;
-    sheet::period(present)
+    period_by_number(*sheet)
 }
 
 // The least start from `low` to `high` that has a place among the placed rows, of which each has an entry of `starts` and, in `begins` and `ends`, as
@@ -159,8 +126,12 @@ pub fn vr_path(
         ≡ path_answer (as_hold hold.now) (placed_rows starts.now begins.now ends.now) low high }
     ensures path { RightPath (as_hold hold.now) (placed_rows starts.now begins.now ends.now) low high (as_path_answer result) }
 {
-    let record = *hold;
-    path::path(record, starts, begins, ends, low, high)
+    let rows = PlacedRows {
+        starts,
+        begins,
+        ends,
+    };
+    path::path(hold, rows, low, high).into()
 }
 
 // The start, the running time and the block of each train of a file: the file's rules, then 11 where a slice has fewer places than the file has
@@ -181,7 +152,7 @@ pub fn vr_rows(file: &[u8], starts: &mut [u64], runs: &mut [u64], blocks: &mut [
         (blocks_of file.now) blocks.old }
     ensures least { result.number ≡ 0 → LeastForFile file.now (take (train_count file.now) starts.new) }
 {
-    study::rows(file, starts, runs, blocks)
+    study::rows(file, starts, runs, blocks).into()
 }
 
 // The sheet of a whole file as text: the file's rules, then 11 where the text does not fit. A refusal leaves the lent bytes as they came.
@@ -191,7 +162,7 @@ pub fn vr_study(file: &[u8], text: &mut [u8]) -> WriteAnswer
         ≡ lent_after (study_refusal file.now (length text.old)) (sheet_text file.now) text.old }
     ensures least { result.number ≡ 0 → LeastForFile file.now (starts_of file.now) }
 {
-    study_text::study(file, text)
+    study_text::study(file, text).into()
 }
 
 // The speed-distance diagram of train k: the file's rules and 10, then 11 where the lent bytes have no room for every point. The bytes carry the
@@ -203,5 +174,5 @@ pub fn vr_diagram(file: &[u8], k: u64, bytes: &mut [u8]) -> WriteAnswer
     ensures bytes { bytes.new ≡ diagram_after file.now k bytes.old }
     ensures figures { result.number ≡ 0 → CarriesRun (line_of file.now) (train_of file.now k) bytes.new }
 {
-    diagram::diagram(file, k, bytes)
+    diagram::diagram(file, k, bytes).into()
 }

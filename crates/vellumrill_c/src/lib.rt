@@ -12,27 +12,16 @@ ghost use Rattle.rules.specs.Path.{path_answer, RightPath};
 ghost use Rattle.rules.specs.Period.{period_answer, HourPattern};
 ghost use Rattle.rules.specs.Text.{sheet_text};
 ghost use Rattle.rules.specs.Time.{FastestRun};
-ghost use Rattle.hold.specs.Calls.{as_hold_answer};
-ghost use Rattle.holds.specs.Values.{as_hold};
-ghost use Rattle.line.specs.Answers.{as_record_place};
-ghost use Rattle.path.specs.Values.{as_path_answer};
+ghost use Rattle.holds.specs.Values.{as_hold, as_sheet};
 ghost use Rattle.path_judging.specs.Rows.{placed_rows};
-ghost use Rattle.sheet.specs.Values.{as_sheet, as_period_answer};
-ghost use Rattle.study.specs.Rows.{starts_of, runs_of, blocks_of, rows_refusal, rows_answer, LeastForFile};
+ghost use Rattle.study.specs.Rows.{starts_of, runs_of, blocks_of, rows_refusal, LeastForFile};
 ghost use Rattle.study_text.specs.Study.{study_refusal};
-ghost use Rattle.text.specs.Text.{write_answer};
-ghost use Rattle.sheet_answers.specs.Answers.{opened_into, added_by_number, headway_by_number};
-ghost use Rattle.vellumrill.specs.Answers.{file_sizes};
+ghost use Rattle.sheet_answers.specs.Answers.{opened_into, added_by_number, headway_by_number, as_period_answer};
+ghost use Rattle.vellumrill.specs.Answers.{as_record_place, file_sizes, as_hold_answer, as_path_answer, rows_answer, write_answer};
 
-use hold::HoldAnswer;
-use holds::HoldRecord;
-use line::RecordPlace;
-use path::PathAnswer;
-use sheet::{PeriodAnswer, Sheet};
-use sheet_answers::{Added, HeadwayAnswer};
-use study::RowsAnswer;
-use text::WriteAnswer;
-use vellumrill::Sizes;
+use holds::{HoldRecord, Sheet};
+use sheet_answers::{AddAnswer, HeadwayAnswer, PeriodAnswer};
+use vellumrill::{HoldAnswer, PathAnswer, RecordPlace, RowsAnswer, Sizes, WriteAnswer};
 
 #[unsafe(no_mangle)]
 pub extern "C" fn vr_check_file(file: &[u8]) -> u64
@@ -93,7 +82,7 @@ pub extern "C" fn vr_open(blocks: u64, sheet: &mut Sheet) -> u64
 }
 
 #[unsafe(no_mangle)]
-pub extern "C" fn vr_add(sheet: &mut Sheet, hold: &HoldRecord) -> Added
+pub extern "C" fn vr_add(sheet: &mut Sheet, hold: &HoldRecord) -> AddAnswer
     ensures { (result ≡ added_by_number (added (as_sheet sheet.old) (as_hold hold.now)).answer)
         × (as_sheet sheet.new ≡ (added (as_sheet sheet.old) (as_hold hold.now)).sheet) }
 {

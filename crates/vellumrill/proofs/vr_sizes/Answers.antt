@@ -1,5 +1,6 @@
-use Rattle.vellumrill.proofs.FileSizes.{sizes_told}
+use Rattle.std.proofs.Common.{◌∙◌}
+use Rattle.vellumrill.proofs.Told.{sizes_are}
 use Rattle.vellumrill.proofs.vr_sizes.Goals as goal
 
 pub returns : goal.returns
-returns c = sizes_told _ c.open_file-opened.ensures c.wide64.ensures.0 c.wide64-2.ensures.0
+returns c = c.into.ensures ∙ sizes_are _ _ c.open_file.ensures.refusal c.open_file.ensures.opened
