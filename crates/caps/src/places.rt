@@ -6,7 +6,7 @@ ghost use Rattle.caps.specs.Caps.{in_use, places_of, limit_places, balise_places
 use values::{Line, place_of};
 use widths::narrow;
 
-// The first `count` places are in use, at most 64; the others are 0.
+// The first `count` places are in use, at most 64; the others are 0. Nothing is allocated, so the array has a fixed size.
 #[derive(Clone, Copy)]
 pub struct Places {
     pub count: usize,

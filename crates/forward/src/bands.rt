@@ -10,7 +10,8 @@ use crate::numbers::squared_of;
 use values::{Line, SquaredSpeed, Train, change_over};
 use widths::narrow;
 
-// Of each band the squared speed gained over one step, and the square of 100 times its top; and whether the gains fall from band to band.
+// Of each band the squared speed gained over one step, and the square of 100 times its top; and whether the gains fall from band to band. Nothing
+// is allocated, so the arrays have a fixed size.
 #[derive(Clone, Copy)]
 pub struct Bands {
     pub count: usize,

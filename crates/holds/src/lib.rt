@@ -11,7 +11,7 @@ pub struct HoldRecord {
 }
 
 impl HoldRecord {
-    // What stands for a hold record where there is none.
+    // What stands for a hold record where there is none: the answer for C has one on a refusal too.
     pub const NONE: HoldRecord = HoldRecord {
         blocks: 0,
         begins: [0; 32],

@@ -25,7 +25,7 @@ pub fn row_of(n: usize, k: usize, entries: &[u64]) -> &[u64]
     &behind[..n.min(behind.len())]
 }
 
-// Each row is clear of the next.
+// Each row is clear of the next. By numbers: of a chain over them, whose test reads two rows, the result was not proved.
 fn each_clear(n: usize, rows: PlacedRows) -> bool
     ensures { result ≡ each_clear n (as_rows rows.entry) }
 {

@@ -85,7 +85,7 @@ pub fn with_hold(mut sheet: Sheet, hold: HoldRecord) -> Addition
     Addition { answer, sheet }
 }
 
-// The sheet is lent, and altered there.
+// The sheet is lent, and altered there, by a thin function above the addition by value: document 01 names the form.
 pub fn add(sheet: &mut Sheet, hold: HoldRecord) -> Result<Added, Refusal>
     ensures { answered result sheet.new ≡ rules.added (as_sheet sheet.old) (as_hold hold) }
 {
@@ -94,7 +94,7 @@ pub fn add(sheet: &mut Sheet, hold: HoldRecord) -> Result<Added, Refusal>
     done.answer
 }
 
-// The second train's start on a sheet of these two.
+// The second train's start on a sheet of these two. Each addition's answer is taken apart by `let .. else`: document 01 names the form.
 pub fn headway(first: HoldRecord, second: HoldRecord) -> Result<u64, Refusal>
     ensures { as_headway_answer result ≡ rules.headway (as_hold first) (as_hold second) }
 {

@@ -44,7 +44,8 @@ fn write_rows_with(
     }
 }
 
-// Writes the columns of an accepted file. Clearing long buffers would take longer than the runs of a short line, so that gets short ones.
+// Writes the columns of an accepted file. Clearing long buffers would take longer than the runs of a short line, so that gets short
+// ones. By two arrays: of one whose size is a parameter it was not proved that it is lent as a slice.
 fn write_rows(
     file: &[u8],
     decoded: DecodedFile,

@@ -36,6 +36,7 @@ fn main(rt: HostRuntime) -> io::Result<()> {
     answer_files(&mut rt.stdin(), |input, file| {
         let call = read_number(input)?;
         let lent = read_number(input)?;
+        // The input's own number, compared once: an enum for it would be longer.
         match call {
             1 => print_program(&rt, file),
             _ => lend_to_study(&rt, file, lent),

@@ -53,7 +53,7 @@ impl<'a> Columns<'a> {
         }
     }
 
-    // How many bytes the lines have.
+    // How many bytes the lines have. By numbers, here and below: of a zip of three columns it was not proved which row a turn has.
     pub(crate) fn text_length(self) -> usize
         ensures { (result ≡ length (lines_of self.entry)) × (result ≤ 84 * 64) }
     {

@@ -41,7 +41,8 @@ pub fn put_sheet(
     Ok(columns.write(buf, at))
 }
 
-// "refused ", the number and a line feed, by how many bytes are written. Refused by 11 where the text does not fit.
+// "refused ", the number and a line feed, by how many bytes are written. The number is any, since the contract's `refusal_text` speaks of any.
+// Refused by 11 where the text does not fit.
 pub fn put_refusal(buf: &mut [u8], number: u64) -> Result<usize, Refusal>
     ensures refusal { refused_by result ≡ room_refusal (refusal_text number) (length buf.old) }
     ensures count { IfOk result (λ bytes. bytes ≡ length (refusal_text number)) }
