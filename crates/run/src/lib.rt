@@ -37,6 +37,7 @@ fn write_run(line: Line, train: Train, speeds: &mut [u32], times: &mut [u64])
 }
 
 // The run of a decoded train on a decoded line: the file's rules from 3 on and 11, whatever the two hold. A refusal leaves both buffers as they came.
+// Speeds and times stand one by one, here and in the calls above, as the C interface lends them.
 pub fn run_train(
     line: Line,
     train: Train,

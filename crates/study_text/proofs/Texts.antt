@@ -1,6 +1,6 @@
 -- The text of a whole file, and what the sheet program prints. Assumes nothing.
 use Prim.Native.Nat.{ℕ, ◌≤◌, ◌<◌}
-use mathlib.Core.Bool.{Bool, true, false}
+use mathlib.Core.Bool.{true}
 use mathlib.Core.List.{List, []}
 use mathlib.Core.Path.{◌≡◌, refl, sym, ap, ◌∙◌}
 use native.Mathlib.Decide.{dec_lt}
@@ -8,8 +8,7 @@ use native.Mathlib.Nat.{zero-add}
 use native.Mathlib.Omega.{arith}
 use lib.ListN.{length, take, replicate, length-replicate, get_or-replicate, get_or-eq_default}
 use lib.Seq.{ext_get_or}
-use lib.Dec.{eqb}
-use borrow.Author.Tests.{le-leb, eqb-true}
+use borrow.Author.Tests.{le-leb}
 use Rattle.refusals.specs.declared.Refusal.{Refusal}
 use Rattle.refusals.specs.Number.{number}
 use Rattle.refusals.proofs.Passing.{numbered}
@@ -18,7 +17,7 @@ use Rattle.rules.specs.Count.{entry, row, padded}
 use Rattle.rules.specs.File.{train_count}
 use Rattle.rules.specs.Meaning.{IsWritten}
 use Rattle.rules.specs.Text.{refusal_text, line_of_train, running_time, sheet_text, program_text}
-use Rattle.rules.proofs.Accepted.{file_first, file_passed, file_most, line_sizes_lem}
+use Rattle.rules.proofs.Accepted.{file_first, file_passed, line_sizes_lem}
 use Rattle.rules.proofs.Calls.{written_is, lent_written, lent_kept}
 use Rattle.rules.proofs.Count.{length-row, entry_row}
 use Rattle.rules.proofs.Refusal.{refusal-none, head_kept}

@@ -1,5 +1,5 @@
 -- `program_text` meets its contract: a refusal's text, or the sheet's.
-use Rattle.std.proofs.Common.{◌≡◌, ◌∙◌, ℕ, sym, ap, length, arith}
+use Rattle.std.proofs.Common.{◌∙◌, ℕ, sym, ap, length, arith}
 use lib.ListN.{length-replicate}
 use Rattle.rules.specs.Count.{padded}
 use Rattle.rules.proofs.Room.{program_most}

@@ -1,9 +1,8 @@
 -- `study` meets its contract: the file's columns, and the sheet's text of them.
-use Rattle.std.proofs.Common.{◌≡◌, ◌≤◌, ◌∙◌, ℕ, List, sym, length, take, length-take-le}
-use Rattle.std.proofs.lemmas.Result.{IfOk-from_err, IfOk-weaker, on_ok_weaker}
+use Rattle.std.proofs.Common.{◌≡◌, ◌∙◌, sym, length, take, length-take-le}
+use Rattle.std.proofs.lemmas.Result.{IfOk-from_err, IfOk-weaker}
 use Rattle.refusals.specs.Number.{number}
 use Rattle.refusals.proofs.Passing.{passed_on, numbered}
-use Rattle.rules.specs.Calls.{lent_after, file_refusal}
 use Rattle.rules.specs.Text.{sheet_text}
 use Rattle.text.specs.Text.{rows_text}
 use Rattle.study.specs.Rows.{starts_of, LeastForFile}
