@@ -71,7 +71,7 @@ pub(crate) fn swept_from(stop: Option<Stop>) -> Swept
 }
 
 // The point of a stop, or the end of a stretch where no stop is left. The sweep tests this number alone at each point: to test the stop itself
-// makes the whole sweep half as slow again.
+// makes a sweep one and a half times as long.
 fn point_of(stop: Option<Stop>, end: usize) -> usize
     ensures { result ≡ point_of stop end }
 {

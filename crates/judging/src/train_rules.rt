@@ -80,6 +80,7 @@ impl TrainKept {
         last_block: true,
     };
 
+    // Of a train that breaks rule 3: a set of tests that all fail, in place of no value.
     pub const NONE: TrainKept = TrainKept {
         sizes: false,
         bands: false,

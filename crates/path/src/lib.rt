@@ -17,7 +17,7 @@ use search::first_place;
 
 // The least start from `low` to `high` that has a place among the placed rows, of which each has an entry of `starts` and, in `begins` and `ends`, as
 // many entries as the hold record has blocks: rules 12, 14, 16 and 17, whatever the slices hold.
-// The window's ends are two numbers, as the interface for C gives them.
+// The window's ends are two numbers: a struct for the two would be longer.
 pub fn path(hold: &HoldRecord, rows: PlacedRows, low: u64, high: u64) -> Result<Path, Refusal>
     ensures answer { as_path_answer result ≡ path_answer (as_hold hold.now) (as_rows rows.entry) low high }
     ensures path { RightPath (as_hold hold.now) (as_rows rows.entry) low high (as_path_answer result) }

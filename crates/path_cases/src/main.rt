@@ -21,6 +21,7 @@ const NO_PATH: Path = Path {
     before: 0,
 };
 
+// Packed as a block count and every place.
 fn read_hold(input: &mut impl Read) -> io::Result<HoldRecord> {
     let blocks = read_number(input)?;
     let mut begins = [0u64; 32];

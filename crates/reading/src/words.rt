@@ -18,7 +18,8 @@ pub(crate) fn word_at(bytes: &[u8], at: usize) -> u16
     u16::from_le_bytes([byte_at(bytes, at), byte_at(bytes, at + 1)])
 }
 
-// The first n of the numbers that stand from a place on, but no more than 64; the places behind them are 0.
+// The first n of the numbers that stand from a place on, but no more than 64; the places behind them are 0. By numbers: of
+// the library's `from_fn` it was not proved that it leaves the bytes as they are.
 pub(crate) fn words_at(bytes: &[u8], at: usize, n: u16) -> [u16; 64]
     requires { at < 1000000 }
     ensures { result ≡ padded 64 (words bytes.now at n) }

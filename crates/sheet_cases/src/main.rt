@@ -53,6 +53,7 @@ fn read_places(input: &mut impl Read) -> io::Result<[u64; 32]> {
     Ok(places)
 }
 
+// Packed as the sheets are, each list by a value and what differs from it.
 fn read_hold(input: &mut impl Read) -> io::Result<HoldRecord> {
     let blocks = read_number(input)?;
     let begins = read_places(input)?;
