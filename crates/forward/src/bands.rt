@@ -1,13 +1,13 @@
 // The bands of a train, decoded once for a sweep, and the traction step by them.
 ghost use Rattle.std.specs.Prelude.{true, ◌≡◌, ℕ, ◌+◌, ◌≤◌, ◌<◌, length, min};
-ghost use Rattle.rules.specs.Admitted.{Admitted};
 ghost use Rattle.rules.specs.Count.{entry, greatest_below};
 ghost use Rattle.rules.specs.Run.{last_top};
 ghost use Rattle.values.specs.Values.{as_line, as_train};
 ghost use Rattle.forward.specs.Traction.{Falls, IsBands, BandBounds};
 
 use crate::numbers::squared_of;
-use values::{Line, SquaredSpeed, Train, change_over};
+use judging::OnLine;
+use values::{SquaredSpeed, Train, change_over};
 use widths::narrow;
 
 // Of each band the squared speed gained over one step, and the square of 100 times its top; and whether the gains fall from band to band. Nothing
@@ -41,16 +41,15 @@ fn gains_fall(gains: &[u32]) -> bool
         .all(|(before, gain)| *gain <= *before)
 }
 
-pub(crate) fn bands_of(line: Line, train: Train) -> Bands
-    requires { Admitted (as_line line) (as_train train) }
-    ensures { IsBands (as_line line) (as_train train) result.count result.gains result.squares }
+pub(crate) fn bands_of(on: &OnLine) -> Bands
+    ensures { IsBands (as_line on.now.line) (as_train on.now.train) result.count result.gains result.squares }
 {
-    let count = train.band_count;
+    let count = on.train.band_count;
     let mut gains = [0; 8];
     let mut squares = [0; 8];
     for k in 0..count {
-        gains[k] = narrow(change_over(train.rates[k], line.step));
-        let square = squared_of(u32::from(train.tops[k]));
+        gains[k] = narrow(change_over(on.train.rates[k], on.line.step));
+        let square = squared_of(u32::from(on.train.tops[k]));
         squares[k] = square.0;
     }
     let falling = gains_fall(&gains[..count]);

@@ -7,7 +7,6 @@ mod stretch;
 
 ghost use Rattle.std.specs.Prelude.{◌≡◌, ◌≤◌, ◌<◌, OnOk, length, take};
 ghost use Rattle.refusals.specs.Number.{refused_by};
-ghost use Rattle.rules.specs.Admitted.{Admitted};
 ghost use Rattle.rules.specs.Calls.{written};
 ghost use Rattle.rules.specs.Count.{row};
 ghost use Rattle.rules.specs.Refusal.{refusal, rules_on};
@@ -17,6 +16,7 @@ ghost use Rattle.forward.specs.Calls.{entries_to, swept_on};
 
 use bands::{bands_of, last_top};
 use caps::{Course, Covered, balise_places, limit_places};
+use judging::OnLine;
 use refusals::Refusal;
 use stops::first_stop;
 use stretch::{stretch_end, swept_from, write_stretch};
@@ -32,25 +32,25 @@ fn narrow_point(i: usize) -> u16
 
 // Sweeps over the points before `end`, one stretch after the other: the loop counts no index, but goes from the start of a stretch to the next.
 // The stops that it reads are copied first: to lend a field of the train has the compiler copy most of it.
-fn write_forward(line: Line, train: Train, end: usize, speeds: &mut [u32])
-    requires admitted { Admitted (as_line line) (as_train train) }
-    requires end_le_points { (end ≤ line.points) × (end ≤ length speeds.old) }
-    ensures { speeds.new ≡ written speeds.old 0 (row (forward (as_line line) (as_train train)) end) }
+// The two come by value: of a train behind a reference the length of its arrays was not proved.
+fn write_forward(on: OnLine, end: usize, speeds: &mut [u32])
+    requires { (end ≤ on.line.points) × (end ≤ length speeds.old) }
+    ensures { speeds.new ≡ written speeds.old 0 (row (forward (as_line on.line) (as_train on.train)) end) }
 {
-    let stop_points = train.stops;
-    let stops = &stop_points[..train.stop_count];
-    let limits_at = limit_places(line);
-    let limits = line.limits;
-    let balises_at = balise_places(line);
+    let stop_points = on.train.stops;
+    let stops = &stop_points[..on.train.stop_count];
+    let limits_at = limit_places(on.line);
+    let limits = on.line.limits;
+    let balises_at = balise_places(on.line);
     let course = Course {
         limits_at,
         limits,
         balises_at,
-        step: line.step,
-        length: train.length,
-        top: last_top(train),
+        step: on.line.step,
+        length: on.train.length,
+        top: last_top(on.train),
     };
-    let bands = bands_of(line, train);
+    let bands = bands_of(&on);
     let mut covered = Covered::START;
     let mut swept = swept_from(first_stop(stops));
     let mut i = 0;
@@ -79,8 +79,8 @@ pub fn sweep_to(line: Line, train: Train, point: u16, speeds: &mut [u32]) -> Res
         (IsForward (as_line line) (as_train train) (entries_to point line.points (length speeds.old))
         (take (entries_to point line.points (length speeds.old)) speeds.new)) }
 {
-    judging::check_on(line, train)?;
+    let on = judging::admit(line, train)?;
     let end = entries_to(point, line.points, speeds.len());
-    write_forward(line, train, end, speeds);
+    write_forward(on, end, speeds);
     Ok(())
 }

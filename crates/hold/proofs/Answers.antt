@@ -18,14 +18,12 @@ use Rattle.rules.specs.Hold.{Hold, hold_of}
 use Rattle.rules.specs.Refusal.{refusal, rules_on, buffers_long}
 use Rattle.rules.specs.Run.{run_row}
 use Rattle.rules.specs.Time.{run_times}
-use Rattle.rules.specs.Admitted.{Parallel, Admitted}
 use Rattle.rules.specs.Calls.{HoldAnswer, held, written, train_refusal, run_refusal}
 use Rattle.rules.proofs.Count.{and_left, and_right}
 use Rattle.rules.proofs.Calls.{lent_written}
 use Rattle.rules.proofs.Run.{length_run}
 use Rattle.rules.proofs.Time.{length_times}
 use Rattle.rules.proofs.Written.{written_long, written_entries}
-use Rattle.rules.proofs.Accepted.{on_admitted}
 use Rattle.run.specs.Calls.{run_refusal_on, speeds_on, times_on}
 use Rattle.run.proofs.Answers.{refused_on, by_buffers, as_run}
 use Rattle.holds.specs.declared.HoldRecord.{HoldRecord}
@@ -62,18 +60,17 @@ module _ (l : Line) (t : Train) (ns nt : ℕ) where
       go false e = absurd (eqb-false _ 0 e (refused_on l t ns nt refl (eqb-false _ 0 e) ∙ z))
 
 -- what an accepted run gives the hold
-module _ (l : Line) (t : Train) (same : Parallel l t) (speeds times : List ℕ) where
+module _ (l : Line) (t : Train) (speeds times : List ℕ) where
   pub run_done :
       {speeds' times' : List ℕ} → run_refusal_on l t (length speeds) (length times) ≡ 0 → speeds' ≡ speeds_on l t speeds times → times' ≡
       times_on l t speeds times →
-      Admitted l t × ((l.points ≤ length speeds') × (l.points ≤ length times')) × ((k : ℕ) → k < l.points → entry speeds' k ≡ entry (run_row l t) k) ×
+      ((l.points ≤ length speeds') × (l.points ≤ length times')) × ((k : ℕ) → k < l.points → entry speeds' k ≡ entry (run_row l t) k) ×
       ((k : ℕ) → k < l.points → entry times' k ≡ entry (run_times l t) k)
   unfolding speeds_on times_on
   run_done {speeds'} {times'} n p q =
       let ok = accepted_on l t (length speeds) (length times) n in
       let s : speeds' ≡ written speeds 0 (run_row l t) = p ∙ rw n (lent_written _ speeds) in
       let m : times' ≡ written times 0 (run_times l t) = q ∙ rw n (lent_written _ times) in (
-        on_admitted l t ok.0 same,
         (
           rw (written_long speeds (run_row l t) s (rw (length_run l t) ok.1)) ok.1,
           rw (written_long times (run_times l t) m (rw (length_times l t) ok.2)) ok.2,

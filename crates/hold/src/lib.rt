@@ -4,7 +4,6 @@
 mod approach;
 
 ghost use Rattle.std.specs.Prelude.{◌≡◌, ℕ, ◌+◌, ◌*◌, ◌<◌, ◌≤◌, length};
-ghost use Rattle.rules.specs.Admitted.{Admitted};
 ghost use Rattle.rules.specs.Calls.{held, speeds_after, times_after};
 ghost use Rattle.rules.specs.Count.{entry};
 ghost use Rattle.rules.specs.Hold.{hold_of};
@@ -17,6 +16,7 @@ ghost use Rattle.hold.specs.Calls.{as_hold_answer, held_on};
 
 use approach::approach_point;
 use holds::HoldRecord;
+use judging::OnLine;
 use refusals::Refusal;
 use stops::{dwell_at, first_stop, stop_ahead};
 use values::{Line, Train};
@@ -29,29 +29,28 @@ fn clearing_time(line: Line) -> u64
 }
 
 // The hold record of the run that the buffers hold.
-fn hold_record(line: Line, train: Train, speeds: &[u32], times: &[u64]) -> HoldRecord
-    requires admitted { Admitted (as_line line) (as_train train) }
-    requires points_in_bounds { (line.points ≤ length speeds.now) × (line.points ≤ length times.now) }
-    requires by_index { (k : ℕ) → k < line.points → entry speeds.now k ≡ entry (run_row (as_line line) (as_train train)) k }
-    requires by_index_2 { (k : ℕ) → k < line.points → entry times.now k ≡ entry (run_times (as_line line) (as_train train)) k }
-    ensures { as_hold result ≡ hold_of (as_line line) (as_train train) }
+fn hold_record(on: OnLine, speeds: &[u32], times: &[u64]) -> HoldRecord
+    requires points_in_bounds { (on.line.points ≤ length speeds.now) × (on.line.points ≤ length times.now) }
+    requires by_index { (k : ℕ) → k < on.line.points → entry speeds.now k ≡ entry (run_row (as_line on.line) (as_train on.train)) k }
+    requires by_index_2 { (k : ℕ) → k < on.line.points → entry times.now k ≡ entry (run_times (as_line on.line) (as_train on.train)) k }
+    ensures { as_hold result ≡ hold_of (as_line on.line) (as_train on.train) }
 {
-    let loss = values::braking_loss(line, train);
-    let cells = values::train_cells(line, train);
-    let clearing = clearing_time(line);
+    let loss = values::braking_loss(on.line, on.train);
+    let cells = values::train_cells(on.line, on.train);
+    let clearing = clearing_time(on.line);
     // Copied before they are lent or indexed: to lend a field of the line or the train has the compiler copy most of it.
-    let starts = line.block_starts;
-    let ends = line.block_ends;
-    let stops = train.stops;
-    let dwells = train.dwells;
-    let stops = &stops[..train.stop_count];
-    let dwells = &dwells[..train.stop_count];
+    let starts = on.line.block_starts;
+    let ends = on.line.block_ends;
+    let stops = on.train.stops;
+    let dwells = on.train.dwells;
+    let stops = &stops[..on.train.stop_count];
+    let dwells = &dwells[..on.train.stop_count];
     let mut hold = HoldRecord::NONE;
-    hold.blocks = line.block_count as u64;
+    hold.blocks = on.line.block_count as u64;
     let mut point = 0;
     let mut stop = first_stop(stops);
     // By number: four arrays have an entry for each block, and a zip of all four is no plainer.
-    for j in 0..line.block_count {
+    for j in 0..on.line.block_count {
         point = approach_point(speeds, loss, point, usize::from(starts[j]));
         stop = stop_ahead(stops, stop, point);
         let dwell = dwell_at(dwells, stop, point);
@@ -73,7 +72,7 @@ pub fn hold_train(
     ensures times { times.new ≡ times_on (as_line line) (as_train train) speeds.old times.old }
 {
     run::run_train(line, train, speeds, times)?;
-    Ok(hold_record(line, train, speeds, times))
+    Ok(hold_record(OnLine { line, train }, speeds, times))
 }
 
 // The hold call: the file's rules, 10 and 11 for train k of a file. The buffers end as after the run call.

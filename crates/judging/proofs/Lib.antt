@@ -1,3 +1,4 @@
 pub mod Rules
 pub mod Order
 pub mod Checks
+pub mod Admitting

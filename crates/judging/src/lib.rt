@@ -7,5 +7,5 @@ mod on_line;
 mod train_rules;
 
 pub use line_rules::{check_line, line_sizes};
-pub use on_line::check_on;
+pub use on_line::{OnLine, admit, check_on};
 pub use train_rules::{TrainKept, train_kept, train_sizes};

@@ -7,7 +7,6 @@ mod times;
 
 ghost use Rattle.std.specs.Prelude.{◌≡◌, ℕ, ◌≤◌, ◌<◌, length, take};
 ghost use Rattle.refusals.specs.Number.{refused_by};
-ghost use Rattle.rules.specs.Admitted.{Admitted};
 ghost use Rattle.rules.specs.Calls.{written, run_refusal, speeds_after, times_after};
 ghost use Rattle.rules.specs.Count.{entry};
 ghost use Rattle.rules.specs.File.{point_count};
@@ -18,22 +17,22 @@ ghost use Rattle.values.specs.Values.{as_line, as_train};
 ghost use Rattle.run.specs.Calls.{run_refusal_on, speeds_on, times_on};
 
 use backward::write_backward;
+use judging::OnLine;
 use refusals::Refusal;
 use times::write_times;
 use values::{Line, Train};
 use widths::narrow;
 
 // Makes the run of the forward row that `speeds` begins with, and writes its arrivals.
-fn write_run(line: Line, train: Train, speeds: &mut [u32], times: &mut [u64])
-    requires admitted { Admitted (as_line line) (as_train train) }
-    requires points_in_bounds { (line.points ≤ length speeds.old) × (line.points ≤ length times.old) }
-    requires by_index { (k : ℕ) → k < line.points → entry speeds.old k ≡ forward (as_line line) (as_train train) k }
-    ensures { (speeds.new ≡ written speeds.old 0 (run_row (as_line line) (as_train train)))
-        × (times.new ≡ written times.old 0 (run_times (as_line line) (as_train train))) }
+fn write_run(on: OnLine, speeds: &mut [u32], times: &mut [u64])
+    requires points_in_bounds { (on.line.points ≤ length speeds.old) × (on.line.points ≤ length times.old) }
+    requires by_index { (k : ℕ) → k < on.line.points → entry speeds.old k ≡ forward (as_line on.line) (as_train on.train) k }
+    ensures { (speeds.new ≡ written speeds.old 0 (run_row (as_line on.line) (as_train on.train)))
+        × (times.new ≡ written times.old 0 (run_times (as_line on.line) (as_train on.train))) }
 {
-    let loss = narrow(values::braking_loss(line, train));
-    write_backward(usize::from(line.points), loss, speeds);
-    write_times(line, train, speeds, times);
+    let loss = narrow(values::braking_loss(on.line, on.train));
+    write_backward(usize::from(on.line.points), loss, speeds);
+    write_times(on, speeds, times);
 }
 
 // The run of a decoded train on a decoded line: the file's rules from 3 on and 11, whatever the two hold. A refusal leaves both buffers as they came.
@@ -56,7 +55,7 @@ pub fn run_train(
     }
     // The point behind the last: the sweep takes in the whole line.
     forward::sweep_to(line, train, line.points, speeds)?;
-    write_run(line, train, speeds, times);
+    write_run(OnLine { line, train }, speeds, times);
     Ok(())
 }
 

@@ -1,6 +1,5 @@
 // The running times: cell times and dwells added up from point to point.
 ghost use Rattle.std.specs.Prelude.{◌≡◌, ℕ, ◌+◌, ◌*◌, ◌<◌, ◌≤◌, length};
-ghost use Rattle.rules.specs.Admitted.{Admitted};
 ghost use Rattle.rules.specs.Calls.{written};
 ghost use Rattle.rules.specs.Count.{entry, ceil_div};
 ghost use Rattle.rules.specs.Run.{run_row};
@@ -8,8 +7,9 @@ ghost use Rattle.rules.specs.Time.{cell_time, run_times};
 ghost use Rattle.values.specs.Values.{as_line, as_train};
 
 use crate::kept::{KeptRoots, Rooted};
+use judging::OnLine;
 use stops::{dwell_at, first_stop, stop_ahead};
-use values::{Line, Speed, SquaredSpeed, Train};
+use values::{Speed, SquaredSpeed};
 
 // A cell's time in microseconds, and the sum of its two roots that gives it.
 #[derive(Clone, Copy)]
@@ -66,21 +66,20 @@ impl Cells {
 }
 
 // Fills `times` with the arrivals of the run that `speeds` holds.
-pub(crate) fn write_times(line: Line, train: Train, speeds: &[u32], times: &mut [u64])
-    requires admitted { Admitted (as_line line) (as_train train) }
-    requires points_in_bounds { (line.points ≤ length speeds.now) × (line.points ≤ length times.old) }
-    requires by_index { (k : ℕ) → k < line.points → entry speeds.now k ≡ entry (run_row (as_line line) (as_train train)) k }
-    ensures { times.new ≡ written times.old 0 (run_times (as_line line) (as_train train)) }
+pub(crate) fn write_times(on: OnLine, speeds: &[u32], times: &mut [u64])
+    requires points_in_bounds { (on.line.points ≤ length speeds.now) × (on.line.points ≤ length times.old) }
+    requires by_index { (k : ℕ) → k < on.line.points → entry speeds.now k ≡ entry (run_row (as_line on.line) (as_train on.train)) k }
+    ensures { times.new ≡ written times.old 0 (run_times (as_line on.line) (as_train on.train)) }
 {
     // Copied before they are lent: to lend a field of the train has the compiler copy most of it.
-    let stops = train.stops;
-    let dwells = train.dwells;
-    let stops = &stops[..train.stop_count];
-    let dwells = &dwells[..train.stop_count];
-    let last = usize::from(line.points) - 1;
+    let stops = on.train.stops;
+    let dwells = on.train.dwells;
+    let stops = &stops[..on.train.stop_count];
+    let dwells = &dwells[..on.train.stop_count];
+    let last = usize::from(on.line.points) - 1;
     let mut stop = first_stop(stops);
     let mut time = 0;
-    let mut cells = Cells::of(line.step);
+    let mut cells = Cells::of(on.line.step);
     let mut kept = KeptRoots::none();
     let mut here = Rooted::of(SquaredSpeed(speeds[0]));
     // By number: a zip of the arrivals and the pairs of speeds would need the point's number for the stops all the same.

@@ -15,6 +15,7 @@ use Rattle.std.proofs.Common.{rules}
 use Rattle.chains.proofs.InUse.{taken_row}
 use Rattle.stops.proofs.Passing.{behind-first}
 use Rattle.caps.proofs.Walk.{course_is, known_at, nearing_first, nearing_next, known_lowest, known_top}
+use Rattle.judging.proofs.Admitting.{admitted}
 use Rattle.forward.proofs.Traction.{count-least, count_most, traction_is, last-most}
 use Rattle.forward.proofs.Sweeping.{OnCourse, before-start}
 use Rattle.values.specs.declared.decoded.Line.{Line as DecodedLine}
@@ -45,51 +46,51 @@ stops_are : (train : DecodedTrain) {line : Line} → length train.stops ≡ 64 �
 stops_are train long a = taken_row train.stops (omega (arith, few train a))
 
 pub slice_bounds-stop_points-end : goal.slice_bounds-stop_points-end
-slice_bounds-stop_points-end c = omega (arith, few c.args.train c.requires.admitted)
+slice_bounds-stop_points-end c = omega (arith, few c.args.on.train (admitted c.args.on))
 
 pub slice_bounds-stops-end : goal.slice_bounds-stops-end
 slice_bounds-stops-end c =
-    let t = c.args.train in
+    let t = c.args.on.train in
     let long : length t.stops ≡ 64 = search rules in
-    let some = few t c.requires.admitted in
+    let some = few t (admitted c.args.on) in
     omega (arith, length-take t.stop_count t.stops)
 
 pub last_top-requires : goal.last_top-requires
 last_top-requires c =
-    (count-least _ c.args.train c.requires.admitted, omega (arith, count_most _ c.args.train c.requires.admitted))
+    (count-least _ c.args.on.train (admitted c.args.on), omega (arith, count_most _ c.args.on.train (admitted c.args.on)))
 
 pub loop-i-init : goal.loop-i-init
 loop-i-init c =
     let first = c.swept_from-swept.ensures in (
       omega arith,
-      rw first.1 (behind-first (take c.args.train.stop_count c.args.train.stops) c.first_stop.ensures),
+      rw first.1 (behind-first (take c.args.on.train.stop_count c.args.on.train.stops) c.first_stop.ensures),
       omega (arith, first.0),
       λ l on. (nearing_first l _ on.admitted refl, rw first.0 (before-start l _), fill_none _ _ _),
     )
 
 pub narrow_point-requires : goal.narrow_point-requires
-narrow_point-requires c = omega (arith, c.loop-i-test.true, c.requires.end_le_points.0, c.requires.admitted.rule3_line.points-most)
+narrow_point-requires c = omega (arith, c.loop-i-test.true, c.requires.0, (admitted c.args.on).rule3_line.points-most)
 
 pub stretch_end-next-requires : goal.stretch_end-next-requires
 stretch_end-next-requires c = c.loop-i-test.true
 
 pub write_stretch-swept-requires : goal.write_stretch-swept-requires
 write_stretch-swept-requires c =
-    let admitted = c.requires.admitted in
+    let kept = admitted c.args.on in
     let on =
-    here c.args.line c.args.train admitted c.limit_places-limits_at.ensures c.balise_places-balises_at.ensures c.last_top.ensures c.bands_of-bands.ensures
-    c.requires.end_le_points.0 in
+    here c.args.on.line c.args.on.train kept c.limit_places-limits_at.ensures c.balise_places-balises_at.ensures c.last_top.ensures c.bands_of-bands.ensures
+    c.requires.0 in
     let done = c.loop-i.invariant.3 _ on in
-    let m = last-most _ _ admitted on.bands in
+    let m = last-most _ _ kept on.bands in
     let e = c.stretch_end-next.ensures in
-    let low = known_top _ _ admitted (known_at _ _ on.admitted on.course c.loop-i.i c.narrow_point.ensures done.0 c.covered_at-covered.ensures) in
+    let low = known_top _ _ kept (known_at _ _ on.admitted on.course c.loop-i.i c.narrow_point.ensures done.0 c.covered_at-covered.ensures) in
     let long = done.2.long in
     record {
-      le_count = (m.0, rw m.1 (squared_mono low), le_trans low (last_top-most _ _ admitted));
+      le_count = (m.0, rw m.1 (squared_mono low), le_trans low (last_top-most _ _ kept));
       w_bound = c.loop-i.invariant.2;
-      apart = rw (stops_are c.args.train (search rules) admitted) admitted.rule8.apart;
+      apart = rw (stops_are c.args.on.train (search rules) kept) kept.rule8.apart;
       behind = c.loop-i.invariant.1;
-      from_le_end = (omega (arith, e.0), omega (arith, e.1, long, c.requires.end_le_points.1));
+      from_le_end = (omega (arith, e.0), omega (arith, e.1, long, c.requires.1));
     }
 
 pub loop-i-smaller : goal.loop-i-smaller
@@ -108,7 +109,7 @@ loop-i-preserved c =
           let (before, filled) = swept.speeds l _ (record {
             admitted = on.admitted;
             traction = traction_is l _ on.admitted on.bands;
-            stops_are = stops_are c.args.train (search rules) c.requires.admitted;
+            stops_are = stops_are c.args.on.train (search rules) (admitted c.args.on);
             lowest_is = λ j h m.
                 let there = ⊎_elim (λ q. inl (sym q)) (λ q. inr (h, e.2 j q m)) (eq-or-lt_of_le h) in
                 known_lowest l _ on.admitted covers j there (omega (arith, e.1, on.on_line));
@@ -120,14 +121,14 @@ loop-i-preserved c =
 pub shape_of-speeds : goal.shape_of-speeds
 shape_of-speeds c =
     let on =
-    here c.args.line c.args.train c.requires.admitted c.limit_places-limits_at.ensures c.balise_places-balises_at.ensures c.last_top.ensures
-    c.bands_of-bands.ensures c.requires.end_le_points.0 in
+    here c.args.on.line c.args.on.train (admitted c.args.on) c.limit_places-limits_at.ensures c.balise_places-balises_at.ensures c.last_top.ensures
+    c.bands_of-bands.ensures c.requires.0 in
     (c.loop-i.invariant.3 _ on).2.long
 
 pub returns : goal.returns
 returns c =
     let on =
-    here c.args.line c.args.train c.requires.admitted c.limit_places-limits_at.ensures c.balise_places-balises_at.ensures c.last_top.ensures
-    c.bands_of-bands.ensures c.requires.end_le_points.0 in
+    here c.args.on.line c.args.on.train (admitted c.args.on) c.limit_places-limits_at.ensures c.balise_places-balises_at.ensures c.last_top.ensures
+    c.bands_of-bands.ensures c.requires.0 in
     let q : c.loop-i.i ≡ c.args.end = omega (arith, c.loop-i-test.false, c.loop-i.invariant.0) in
-    fill_written (c.loop-i.invariant.3 _ on).2 q c.requires.end_le_points.1
+    fill_written (c.loop-i.invariant.3 _ on).2 q c.requires.1

@@ -14,10 +14,10 @@ invariant-loop-i l =
     (l.i ≤ l.end)
     × Behind l.stops l.swept.stop l.i
     × (l.swept.drawn.w.0 ≤ 900000000)
-    × ((line : Line) → OnCourse line (as_train l.fn.train) l.course l.bands l.end →
-    Nearing line (as_train l.fn.train) l.i l.covered
-    × Before line (as_train l.fn.train) l.i l.swept.drawn.w.0
-    × Filled (forward line (as_train l.fn.train)) 0 l.i l.initial.speeds l.speeds)
+    × ((line : Line) → OnCourse line (as_train l.fn.on.train) l.course l.bands l.end →
+    Nearing line (as_train l.fn.on.train) l.i l.covered
+    × Before line (as_train l.fn.on.train) l.i l.swept.drawn.w.0
+    × Filled (forward line (as_train l.fn.on.train)) 0 l.i l.initial.speeds l.speeds)
 
 abbrev pub decreases-loop-i : goal.decreases-loop-i
 decreases-loop-i l =

@@ -7,6 +7,6 @@ use Rattle.hold.proofs.hold_record.Given as goal
 abbrev pub invariant-loop-j : goal.invariant-loop-j
 invariant-loop-j l =
     record {
-      filled : Holds (as_line l.fn.line) (as_train l.fn.train) (as_hold l.hold) l.point l.stop l.j;
-      few_blocks : l.fn.line.block_count ≤ 32;
+      filled : Holds (as_line l.fn.on.line) (as_train l.fn.on.train) (as_hold l.hold) l.point l.stop l.j;
+      few_blocks : l.fn.on.line.block_count ≤ 32;
     }

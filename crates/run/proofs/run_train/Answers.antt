@@ -64,12 +64,14 @@ module _ (c : In_ok-sweep_to) where
   forward_row : c.sweep_to.new.speeds ≡ written c.args.speeds.now 0 (row (forward (as_line c.args.line) (as_train c.args.train)) c.args.line.points)
   forward_row = whole_line (as_line c.args.line) (as_train c.args.train) c.args.speeds.now kept (omega (arith, room)) c.in_ok-sweep_to.ensures.speeds
 
+pub invariant_of-write_run : goal.invariant_of-write_run
+invariant_of-write_run c = record { keeps = kept (goal.at.invariant_of-write_run c).In_ok-sweep_to }
+
 pub write_run-requires : goal.write_run-requires
 write_run-requires c =
     let swept = (goal.at.write_run-requires c).In_ok-sweep_to in
     let long = written_long c.args.speeds.now _ (forward_row swept) (rw length-row (omega (arith, room swept))) in
     record {
-      admitted = admitted swept;
       points_in_bounds = (omega (arith, long, room swept), omega (arith, room swept));
       by_index = forward_entries _ _ c.args.speeds.now (forward_row swept);
     }

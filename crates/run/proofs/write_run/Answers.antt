@@ -1,4 +1,5 @@
 use Rattle.std.proofs.Common.{◌≡◌, arith}
+use Rattle.judging.proofs.Admitting.{admitted}
 use Rattle.rules.specs.Calls.{written}
 use Rattle.rules.specs.Run.{run_row}
 use Rattle.rules.proofs.Run.{length_run}
@@ -11,29 +12,28 @@ use Rattle.run.proofs.write_run.Goals.{After-write_backward}
 
 pub write_backward-requires : goal.write_backward-requires
 write_backward-requires c =
-    let loss = loss_narrow _ _ c.requires.admitted c.braking_loss.ensures c.narrow-loss.ensures in
+    let loss = loss_narrow _ _ (admitted c.args.on) c.braking_loss.ensures c.narrow-loss.ensures in
     record {
       le_points = (
-        omega (arith, c.requires.admitted.rule3_line.points-least, c.from.ensures),
+        omega (arith, (admitted c.args.on).rule3_line.points-least, c.from.ensures),
         omega (arith, c.requires.points_in_bounds.0, c.from.ensures),
-        omega (arith, loss_most _ _ c.requires.admitted, loss),
+        omega (arith, loss_most _ _ (admitted c.args.on), loss),
       );
-      by_index = λ k h. forward-most _ _ c.args.speeds.now c.requires.by_index c.requires.admitted k (omega (arith, c.from.ensures));
+      by_index = λ k h. forward-most _ _ c.args.speeds.now c.requires.by_index (admitted c.args.on) k (omega (arith, c.from.ensures));
     }
 
 module _ (c : After-write_backward) where
-  run_made : c.write_backward.new.speeds ≡ written c.args.speeds.now 0 (run_row (as_line c.args.line) (as_train c.args.train))
+  run_made : c.write_backward.new.speeds ≡ written c.args.speeds.now 0 (run_row (as_line c.args.on.line) (as_train c.args.on.train))
   run_made =
-      sweeps_run (as_line c.args.line) (as_train c.args.train) c.args.speeds.now c.requires.by_index
-      (rw (c.from.ensures, loss_narrow _ _ c.requires.admitted c.braking_loss.ensures c.narrow-loss.ensures) at c.write_backward.ensures)
+      sweeps_run (as_line c.args.on.line) (as_train c.args.on.train) c.args.speeds.now c.requires.by_index
+      (rw (c.from.ensures, loss_narrow _ _ (admitted c.args.on) c.braking_loss.ensures c.narrow-loss.ensures) at c.write_backward.ensures)
 
 pub write_times-requires : goal.write_times-requires
 write_times-requires c =
     let made = run_made (goal.at.write_times-requires c).After-write_backward in
-    let n = length_run (as_line c.args.line) (as_train c.args.train) in
+    let n = length_run (as_line c.args.on.line) (as_train c.args.on.train) in
     let long = written_long c.args.speeds.now _ made (rw n c.requires.points_in_bounds.0) in
     record {
-      admitted = c.requires.admitted;
       points_in_bounds = (omega (arith, long, c.requires.points_in_bounds.0), c.requires.points_in_bounds.1);
       by_index = λ k h. written_entries c.args.speeds.now _ made k (rw n h);
     }

@@ -5,4 +5,4 @@ use Rattle.run.proofs.times.write_times.Given as goal
 
 abbrev pub invariant-loop-i : goal.invariant-loop-i
 invariant-loop-i l =
-    Arrived (as_line l.fn.line) (as_train l.fn.train) l.initial.times l.i l.stop l.time l.here.squared.0 l.times × (l.cells.step ≡ l.fn.line.step)
+    Arrived (as_line l.fn.on.line) (as_train l.fn.on.train) l.initial.times l.i l.stop l.time l.here.squared.0 l.times × (l.cells.step ≡ l.fn.on.line.step)
