@@ -1,3 +1,4 @@
 pub mod Sample
 pub mod OneMore
 pub mod Ties
+pub mod Refusals

@@ -15,7 +15,7 @@ pub(crate) struct Rooted {
 }
 
 impl Rooted {
-    pub fn of(w: SquaredSpeed) -> Rooted
+    pub(crate) fn of(w: SquaredSpeed) -> Rooted
         ensures { result.squared.0 ≡ w.0 }
     {
         Rooted {
@@ -39,7 +39,8 @@ fn place_of(w: SquaredSpeed) -> usize
 }
 
 impl KeptRoots {
-    pub fn none() -> KeptRoots {
+    // Where no root has been met: any numbers would do, since each is tested before it is taken.
+    pub(crate) fn none() -> KeptRoots {
         KeptRoots { numbers: [0; 1024] }
     }
 
@@ -58,7 +59,7 @@ impl KeptRoots {
     }
 
     // The root of w, which comes next behind `before`.
-    pub fn root_after(&mut self, before: Rooted, w: SquaredSpeed) -> Rooted
+    pub(crate) fn root_after(&mut self, before: Rooted, w: SquaredSpeed) -> Rooted
         ensures { result.squared.0 ≡ w.0 }
     {
         if w.0 == before.squared.0 {
