@@ -1,4 +1,5 @@
-// What the programs that answer cases share: reading numbers and files from their input, and telling in few numbers what a buffer holds.
+// What the programs that answer cases share: reading numbers and files from their input, and telling in few numbers what a buffer holds. The
+// sheet program reads its input by `read_full` too.
 #![tactic(auto)]
 
 mod answers;
