@@ -1,14 +1,7 @@
 -- The forward sweep, one point after the other. Assumes nothing.
-use Prim.Native.Nat.{ℕ, zero, suc, ◌+◌, ◌≤◌, ◌<◌, min}
+use Prim.Native.Nat.{ℕ, zero, suc, ◌+◌, ◌≤◌, min}
 use mathlib.Core.Bool.{Bool, true, false, cond}
-use mathlib.Core.List.{List}
 use mathlib.Core.Path.{◌≡◌, refl, ◌∙◌}
-use lib.Dec.{eqb}
-use borrow.Author.Tests.{le-leb, ne_eqb}
-use Rattle.std.specs.Prelude.{Option, Some, None}
-use Rattle.stops.specs.declared.Stop.{Stop}
-use Rattle.stops.specs.Stops.{stop_ahead, is_at}
-use Rattle.forward.specs.Stretch.{point_of}
 use native.Mathlib.Nat.{le_trans}
 use native.Mathlib.Omega.{arith}
 use Rattle.rules.specs.Line.{Line, Train}
@@ -57,16 +50,3 @@ module _ (l : Line) (t : Train) (a : Admitted l t) where
 pub capped-most : (b : Bool) {c m : ℕ} → c ≡ cond b 0 m → c ≤ m
 capped-most true e = omega arith
 capped-most false e = omega arith
-
--- ---- the next stop, by its point
-
--- it is the first at point i or later where its point is not passed
-pub stop_kept : (stops : List ℕ) (stop : Option Stop) {i : ℕ} (end : ℕ) → i ≤ point_of stop end → stop ≡ stop_ahead stops stop i
-unfolding stop_ahead
-stop_kept stops None end h = refl
-stop_kept stops (Some stop) {i} end h = rw (le-leb i stop.point h)
-
--- and it is at point i exactly where its point is
-pub at_point : (stop : Option Stop) {i end : ℕ} → i < end → eqb (point_of stop end) i ≡ is_at stop i
-at_point None {i} {end} h = ne_eqb end i (λ e. omega arith)
-at_point (Some stop) h = refl

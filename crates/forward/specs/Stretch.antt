@@ -1,17 +1,11 @@
 -- The forward sweep over a stretch of points at which a train covers the same limits.
-use Rattle.std.specs.Prelude.{ℕ, suc, ◌+◌, ◌≤◌, ◌<◌, min, List, ◌≡◌, Option, Some, None}
+use Rattle.std.specs.Prelude.{ℕ, suc, ◌+◌, ◌≤◌, ◌<◌, min, List, ◌≡◌}
 use Rattle.rules.specs.Admitted.{Admitted}
 use Rattle.rules.specs.Count.{entry, greatest_below}
 use Rattle.rules.specs.Line.{Line, Train}
 use Rattle.rules.specs.Run.{cap_speed, traction_step, forward}
 use Rattle.rules.proofs.Fill.{Filled}
-use Rattle.stops.specs.declared.Stop.{Stop}
 use Rattle.forward.specs.declared.bands.Bands.{Bands}
-
--- the point of a stop, or the end of a stretch where no stop is left
-abbrev pub point_of : Option Stop → ℕ → ℕ
-point_of None end = end
-point_of (Some stop) end = stop.point
 
 -- w is the entry before point i; before point 0 it is above every cap
 pub record Before (l : Line) (t : Train) (i w : ℕ) : Type 0 where

@@ -3,11 +3,11 @@ ghost use Rattle.std.specs.Prelude.{cond, ◌≡◌, ℕ, ◌+◌, ◌-◌, ◌�
 ghost use Rattle.rules.specs.Count.{entry, greatest_below};
 ghost use Rattle.rules.specs.Run.{squared};
 ghost use Rattle.stops.specs.Stops.{Apart, Behind};
-ghost use Rattle.forward.specs.Stretch.{SweptTo, point_of};
+ghost use Rattle.forward.specs.Stretch.{SweptTo};
 
 use crate::bands::Bands;
 use crate::numbers::squared_of;
-use stops::{Stop, stop_ahead};
+use stops::{Stop, point_of, stop_ahead};
 use values::SquaredSpeed;
 
 // The cap of a speed in km/h: 0 at a stop.
@@ -68,14 +68,6 @@ pub(crate) fn swept_from(stop: Option<Stop>) -> Swept
         },
         stop,
     }
-}
-
-// The point of a stop, or the end of a stretch where no stop is left. The sweep tests this number alone at each point: to test the stop itself
-// makes a sweep one and a half times as long.
-fn point_of(stop: Option<Stop>, end: usize) -> usize
-    ensures { result ≡ point_of stop end }
-{
-    stop.map_or(end, |stop| stop.point)
 }
 
 // Sweeps over the points from `from` up to `end`, at which the lowest limit is the same.

@@ -64,6 +64,11 @@ module _ (l : Line) (t : Train) where
           times_left = sym (lent_kept _ times (λ z. h (e ∙ z)));
         }
 
+    -- the two buffers of a refused call
+    pub buffers_kept : {r : ℕ} → r ≡ run_refusal_on l t (length speeds) (length times) → (r ≡ 0 → ⊥) →
+        (speeds ≡ speeds_on l t speeds times) × (times ≡ times_on l t speeds times)
+    buffers_kept e h = ((kept e h).speeds_left, (kept e h).times_left)
+
     -- by the file's rules, and by 11
     pub refused : {r : ℕ} → r ≡ refusal (rules_on l t) → (r ≡ 0 → ⊥) → Answered r speeds times
     refused e h = kept (refused_on (length speeds) (length times) e h) h

@@ -8,7 +8,7 @@ ghost use Rattle.values.specs.Values.{as_line, as_train};
 
 use crate::kept::{KeptRoots, Rooted};
 use judging::OnLine;
-use stops::{dwell_at, first_stop, stop_ahead};
+use stops::{dwell_at, first_stop, point_of, stop_ahead};
 use values::{Speed, SquaredSpeed};
 
 // A cell's time in microseconds, and the sum of its two roots that gives it.
@@ -78,6 +78,8 @@ pub(crate) fn write_times(on: OnLine, speeds: &[u32], times: &mut [u64])
     let dwells = &dwells[..on.train.stop_count];
     let last = usize::from(on.line.points) - 1;
     let mut stop = first_stop(stops);
+    let mut stop_point = point_of(stop, last);
+    let mut stop_dwell = dwell_at(dwells, stop, stop_point);
     let mut time = 0;
     let mut cells = Cells::of(on.line.step);
     let mut kept = KeptRoots::none();
@@ -85,9 +87,13 @@ pub(crate) fn write_times(on: OnLine, speeds: &[u32], times: &mut [u64])
     // By number: a zip of the arrivals and the pairs of speeds would need the point's number for the stops all the same.
     for i in 0..last {
         times[i] = time;
-        stop = stop_ahead(stops, stop, i);
+        if stop_point < i {
+            stop = stop_ahead(stops, stop, i);
+            stop_point = point_of(stop, last);
+            stop_dwell = dwell_at(dwells, stop, stop_point);
+        }
         let there = kept.root_after(here, SquaredSpeed(speeds[i + 1]));
-        let dwell = dwell_at(dwells, stop, i);
+        let dwell = if stop_point == i { stop_dwell } else { 0 };
         let cell = cells.time_between(here.root.speed, there.root.speed);
         time += dwell + cell;
         here = there;

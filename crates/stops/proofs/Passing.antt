@@ -9,7 +9,7 @@ use native.Mathlib.Omega.{arith}
 use lib.Dec.{leb, ltb, eqb}
 use lib.ListN.{length, drop, length-drop}
 use lib.Seq.{get_or-drop}
-use borrow.Author.Tests.{leb-true, ltb-true, ltb-false, lt-ltb, le-ltb, eqb-true, eqb-false, eq-eqb, ne_eqb}
+use borrow.Author.Tests.{le-leb, leb-true, ltb-true, ltb-false, lt-ltb, le-ltb, eqb-true, eqb-false, eq-eqb, ne_eqb}
 use Rattle.std.specs.Prelude.{Option, Some, None, MatchOption}
 use Rattle.rules.specs.Count.{entry}
 use Rattle.rules.specs.Line.{Line, Train}
@@ -19,7 +19,7 @@ use Rattle.rules.proofs.Count.{rises_far}
 use Rattle.rules.proofs.Cap.{listed-there, listed_only}
 use Rattle.rules.proofs.Time.{dwell-none, cond_zero}
 use Rattle.stops.specs.declared.Stop.{Stop}
-use Rattle.stops.specs.Stops.{passed_by, stop_number, stop_from, stop_ahead, is_at, dwell_here, number_of, Apart, Behind, NextStop}
+use Rattle.stops.specs.Stops.{passed_by, stop_number, stop_from, stop_ahead, point_of, is_at, dwell_here, number_of, Apart, Behind, NextStop}
 
 -- ---- the first stop at a point or later
 
@@ -175,6 +175,25 @@ module _ (stops : List ℕ) (apart : Apart stops) where
 -- further on
 pub behind_on : {stops : List ℕ} {stop : Option Stop} {i j : ℕ} → NextStop stops stop i → i ≤ j → Behind stops stop j
 behind_on n h = record { at = n.behind.at; there = n.behind.there; passed = λ k l. omega (arith, n.behind.passed k l) }
+
+-- ---- the next stop, by its point
+
+-- it is the first at point i or later where its point is not passed
+pub stop_kept : (stops : List ℕ) (stop : Option Stop) {i : ℕ} (end : ℕ) → i ≤ point_of stop end → stop ≡ stop_ahead stops stop i
+unfolding stop_ahead
+stop_kept stops None end h = refl
+stop_kept stops (Some stop) {i} end h = rw (le-leb i stop.point h)
+
+-- and it is at point i exactly where its point is
+pub at_point : (stop : Option Stop) {i end : ℕ} → i < end → eqb (point_of stop end) i ≡ is_at stop i
+at_point None {i} {end} h = ne_eqb end i (λ e. omega arith)
+at_point (Some stop) h = refl
+
+-- no dwell is beside it where its point is another
+pub elsewhere : (dwells : List ℕ) (stop : Option Stop) {i : ℕ} (end : ℕ) → (point_of stop end ≡ i → ⊥) → dwell_here dwells stop i ≡ 0
+unfolding dwell_here
+elsewhere dwells None end h = refl
+elsewhere dwells (Some stop) {i} end h = rw (ne_eqb stop.point i h)
 
 -- ---- which point is a stop, and its dwell
 

@@ -21,6 +21,11 @@ unfoldable pub stop_ahead : List ℕ → Option Stop → ℕ → Option Stop
 stop_ahead stops None i = None
 stop_ahead stops (Some before) i = cond (leb i before.point) (Some before) (stop_from stops before.number i)
 
+-- the point of a stop, or `end` where no stop is left
+abbrev pub point_of : Option Stop → ℕ → ℕ
+point_of None end = end
+point_of (Some stop) end = stop.point
+
 -- the stop is at point i
 abbrev pub is_at : Option Stop → ℕ → Bool
 is_at None i = false

@@ -2,7 +2,7 @@
 #![tactic(auto)]
 
 ghost use Rattle.std.specs.Prelude.{◌≡◌};
-ghost use Rattle.stops.specs.Stops.{stop_number, stop_from, stop_ahead, dwell_here};
+ghost use Rattle.stops.specs.Stops.{stop_number, stop_from, stop_ahead, point_of, dwell_here};
 
 // The number of a stop and its point.
 #[derive(Clone, Copy)]
@@ -43,6 +43,14 @@ pub fn stop_ahead(stops: &[u16], before: Option<Stop>, i: usize) -> Option<Stop>
     } else {
         stop_from(stops, stop.number, i)
     }
+}
+
+// The point of a stop, or `end` where no stop is left. A loop over the points tests this number alone at each: to test the stop itself makes it
+// half as long again.
+pub fn point_of(stop: Option<Stop>, end: usize) -> usize
+    ensures { result ≡ point_of stop end }
+{
+    stop.map_or(end, |stop| stop.point)
 }
 
 // The dwell in microseconds where the stop is at point i, else 0. The dwell at point 0 does not count.

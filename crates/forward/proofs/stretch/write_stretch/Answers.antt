@@ -8,10 +8,9 @@ use Rattle.rules.specs.Count.{entry}
 use Rattle.rules.specs.Run.{listed}
 use Rattle.rules.proofs.Fill.{fill_none, fill_up}
 use lib.Dec.{eqb}
-use Rattle.stops.specs.Stops.{NextStop, stop_ahead}
-use Rattle.forward.specs.Stretch.{point_of}
-use Rattle.stops.proofs.Passing.{next_here, here-listed, behind_on}
-use Rattle.forward.proofs.Sweeping.{before_next, forward-at, cap-at, capped-most, stop_kept, at_point}
+use Rattle.stops.specs.Stops.{NextStop, stop_ahead, point_of}
+use Rattle.stops.proofs.Passing.{next_here, here-listed, behind_on, stop_kept, at_point}
+use Rattle.forward.proofs.Sweeping.{before_next, forward-at, cap-at, capped-most}
 use Rattle.forward.proofs.stretch.write_stretch.Goals as goal
 use Rattle.forward.proofs.stretch.write_stretch.Goals.{then-stop_point-i, else-stop_point-i}
 

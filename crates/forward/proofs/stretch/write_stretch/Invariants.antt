@@ -1,8 +1,8 @@
 use Prim.Native.Nat.{◌≤◌}
 use mathlib.Core.Path.{◌≡◌}
 use lib.ListN.{length}
-use Rattle.stops.specs.Stops.{Behind}
-use Rattle.forward.specs.Stretch.{SweptTo, point_of}
+use Rattle.stops.specs.Stops.{Behind, point_of}
+use Rattle.forward.specs.Stretch.{SweptTo}
 use Rattle.forward.proofs.stretch.write_stretch.Given as goal
 
 abbrev pub invariant-loop-i : goal.invariant-loop-i
