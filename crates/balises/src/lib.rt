@@ -26,7 +26,10 @@ pub fn balises_kept(line: Line) -> bool
     let last = last_place(line.points, line.step);
     // The least place that the next balise may have.
     let mut least = 0;
-    for (point, metres) in line.balise_points[..n].iter().zip(&line.balise_metres[..n]) {
+    // Copied before they are lent: to lend a field of the line has the compiler copy most of it.
+    let points = line.balise_points;
+    let metres_past = line.balise_metres;
+    for (point, metres) in points[..n].iter().zip(&metres_past[..n]) {
         let place = place_of(*point, *metres, line.step);
         if line.step <= *metres || place < least || last < place {
             return false;

@@ -48,7 +48,9 @@ fn limit_points_kept(line: Line) -> bool
     requires { Sized line }
     ensures { result ≡ limit_points_rule (as_line line) }
 {
-    let points = &line.limit_points[..line.limit_count];
+    // Copied before it is lent, here and below: to lend a field of the line or the train has the compiler copy most of it.
+    let points = line.limit_points;
+    let points = &points[..line.limit_count];
     points[0] == 0 && rises_by(1, points) && all_within(points, 0, line.points - 2)
 }
 
@@ -57,7 +59,8 @@ fn limits_kept(line: Line) -> bool
     requires { Sized line }
     ensures { result ≡ limits_rule (as_line line) }
 {
-    all_within(&line.limits[..line.limit_count], 1, 300)
+    let limits = line.limits;
+    all_within(&limits[..line.limit_count], 1, 300)
 }
 
 // Rule 6.
@@ -65,8 +68,10 @@ fn blocks_kept(line: Line) -> bool
     requires { Sized line }
     ensures { result ≡ blocks_rule (as_line line) }
 {
-    let starts = &line.block_starts[..line.block_count];
-    let ends = &line.block_ends[..line.block_count];
+    let starts = line.block_starts;
+    let ends = line.block_ends;
+    let starts = &starts[..line.block_count];
+    let ends = &ends[..line.block_count];
     starts[0] == 0
         && below_by(1, starts, ends)
         && below_by(0, ends, &starts[1..])

@@ -39,8 +39,11 @@ fn bands_kept(train: Train) -> bool
     requires { Counted train }
     ensures { result ≡ bands_rule (as_train train) }
 {
-    let tops = &train.tops[..train.band_count];
-    let rates = &train.rates[..train.band_count];
+    // Copied before they are lent, here and below, as in the rules of a line.
+    let tops = train.tops;
+    let rates = train.rates;
+    let tops = &tops[..train.band_count];
+    let rates = &rates[..train.band_count];
     rises_by(1, tops) && all_within(tops, 1, 300) && all_within(rates, 1, 200)
 }
 
@@ -49,8 +52,10 @@ fn stops_kept(line: Line, train: Train) -> bool
     requires { Sized line × Counted train }
     ensures { result ≡ stops_rule (as_line line) (as_train train) }
 {
-    let stops = &train.stops[..train.stop_count];
-    let dwells = &train.dwells[..train.stop_count];
+    let stops = train.stops;
+    let dwells = train.dwells;
+    let stops = &stops[..train.stop_count];
+    let dwells = &dwells[..train.stop_count];
     rises_by(2, stops) && all_within(stops, 0, line.points - 1) && all_within(dwells, 0, 3600)
 }
 

@@ -15,7 +15,11 @@ pub(crate) fn word_at(bytes: &[u8], at: usize) -> u16
     requires { at < 2000000 }
     ensures { (result ≡ word bytes.now at) × (result < 65536) }
 {
-    u16::from_le_bytes([byte_at(bytes, at), byte_at(bytes, at + 1)])
+    if at + 1 < bytes.len() {
+        u16::from_le_bytes([bytes[at], bytes[at + 1]])
+    } else {
+        u16::from(byte_at(bytes, at))
+    }
 }
 
 // The first n of the numbers that stand from a place on, but no more than 64; the places behind them are 0. By numbers: of
