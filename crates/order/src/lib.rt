@@ -4,11 +4,15 @@
 ghost use Rattle.std.specs.Prelude.{◌≡◌, ◌+◌, leb};
 ghost use Rattle.order.specs.Clear.{clear_of};
 
-// The train ahead has left a block before the one behind comes. A sum of two times may need more than 64 bits.
+// The train ahead has left a block before the one behind comes. No sum is formed, since it may not fit.
 fn leaves_before(ahead: u64, end: u64, behind: u64, begin: u64) -> bool
     ensures { result ≡ leb (ahead + end) (behind + begin) }
 {
-    u128::from(ahead) + u128::from(end) <= u128::from(behind) + u128::from(begin)
+    if ahead <= behind {
+        end.saturating_sub(begin) <= behind - ahead
+    } else {
+        ahead - behind <= begin.saturating_sub(end)
+    }
 }
 
 // The train ahead has left every block before the one behind comes: by the start and the ends of the one, the start and the beginnings of the other.

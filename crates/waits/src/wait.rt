@@ -13,9 +13,9 @@ pub fn later(start: u64, free: u64, begin: u64) -> u64
 pub fn longest_wait(free: &[u64], begins: &[u64]) -> u64
     ensures { result ≡ greatest_below (min (length free.now) (length begins.now)) (λ b. entry free.now b - entry begins.now b) }
 {
-    free.iter()
-        .zip(begins)
-        .map(|(free, begin)| free.saturating_sub(*begin))
-        .max()
-        .unwrap_or(0)
+    let mut longest = 0;
+    for (free_time, begin) in free.iter().zip(begins) {
+        longest = later(longest, *free_time, *begin);
+    }
+    longest
 }

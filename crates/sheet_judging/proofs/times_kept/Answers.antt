@@ -1,17 +1,35 @@
--- `times_kept`: each beginning is below the end beside it, and no end is too late.
-use Rattle.std.proofs.Common.{◌↔◌, ◌<◌, ◌≤◌, ◌^◌, ℕ, min, length, IsTrue, slice_index, rules}
-use Rattle.std.proofs.lemmas.Bool.{le-leb, leb-true, lt-ltb, ltb-true}
-use Rattle.rules.proofs.Count.{and_left, and_right, and_both}
-use Rattle.chains.proofs.Every.{every_is}
+-- `times_kept`: each hold keeps rule 14, one after the other.
+use Rattle.std.proofs.Common.{◌≡◌, ◌≤◌, ◌<◌, ◌^◌, ℕ, false, leb, ltb, arith, sym}
+use Rattle.std.proofs.lemmas.Bool.{le-leb, lt-leb, lt-ltb, le-ltb}
+use Rattle.rules.specs.Count.{◌and◌}
+use Rattle.rules.proofs.Count.{and_both}
+use Rattle.rules.proofs.Loops.{every-none, every_more, every-broken, every_done}
 use Rattle.sheet_judging.specs.Times.{times_kept}
 use Rattle.sheet_judging.proofs.times_kept.Goals as goal
 
+module _ (begin end : ℕ) where
+  empty : end ≤ begin → (ltb begin end and leb end (2 ^ 44)) ≡ false
+  unfolding ◌and◌
+  empty l = rw (le-ltb begin end l)
+
+  late : begin < end → 2 ^ 44 < end → (ltb begin end and leb end (2 ^ 44)) ≡ false
+  unfolding ◌and◌
+  late l m = rw (lt-ltb begin end l, lt-leb end (2 ^ 44) m)
+
+pub loop-i-init : goal.loop-i-init
+loop-i-init c = (omega arith, every-none _)
+
+pub returns-then-ends-i : goal.returns-then-ends-i
+unfolding times_kept
+returns-then-ends-i c = sym (every-broken _ _ _ (omega arith) (empty _ _ c.if-ends-i.true))
+
+pub returns-then-ends-i-gt-LATEST_END : goal.returns-then-ends-i-gt-LATEST_END
+unfolding times_kept
+returns-then-ends-i-gt-LATEST_END c = sym (every-broken _ _ _ (omega arith) (late _ _ (omega arith) c.if-ends-i-gt-LATEST_END.true))
+
+pub loop-i-preserved : goal.loop-i-preserved
+loop-i-preserved c = (omega arith, every_more _ _ c.loop-i.invariant.1 (and_both (lt-ltb _ _ c.if-ends-i.false) (le-leb _ _ c.if-ends-i-gt-LATEST_END.false)))
+
 pub returns : goal.returns
 unfolding times_kept
-returns c =
-    let begins = c.args.begins.now in
-    let ends = c.args.ends.now in
-    let each : IsTrue c.all.result ↔ ((i : ℕ) → i < min (length begins) (length ends) →
-    (slice_index begins i < slice_index ends i) × (slice_index ends i ≤ 2 ^ 44)) = Prim.search rules in
-    every_is _ _ _ each (λ i p. and_both (lt-ltb _ _ p.0) (le-leb _ _ p.1))
-    (λ i e. (ltb-true _ _ (and_left _ _ e), leb-true _ _ (and_right _ _ e)))
+returns c = sym (every_done _ c.loop-i.invariant.0 (omega arith) c.loop-i.invariant.1)

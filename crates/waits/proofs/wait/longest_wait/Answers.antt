@@ -1,23 +1,32 @@
--- `longest_wait`: what the chain gives is the greatest wait.
-use Rattle.std.proofs.Common.{rules, ◌≡◌, ◌-◌, min, length, ℕ, ◌<◌, ◌≤◌, slice_index, Option, Some, None, MatchOption, unwrap_or}
+-- `longest_wait`: one block after the other.
+use Rattle.std.proofs.Common.{rules, ◌≡◌, ◌+◌, ℕ, length, max, refl, ◌∙◌}
+use native.Mathlib.Numerals.{add-one}
+use lib.ListN.{length-append}
+use Rattle.std.proofs.lemmas.Slice.Zip.{zip_turn, zip_end}
 use Rattle.rules.specs.Count.{greatest_below}
-use Rattle.rules.proofs.Count.{at_most-greatest, greatest-at_most}
 use Rattle.waits.proofs.wait.longest_wait.Goals as goal
-use native.Mathlib.Nat.{le_antisymm}
 
--- the greatest number of a row, and none of an empty one
-greatest_is : (n : ℕ) (f : ℕ → ℕ) (r : Option ℕ) →
-    MatchOption r (n ≡ 0) (λ m. ((k : ℕ) → k < n → f k ≤ m) × ((k : ℕ) × (k < n) × (m ≡ f k))) → unwrap_or r 0 ≡ greatest_below n f
+-- the next number taken in
+one_more : (f : ℕ → ℕ) (n : ℕ) {longest next : ℕ} → longest ≡ greatest_below n f → next ≡ max longest (f n) → next ≡ greatest_below (n + 1) f
 unfolding greatest_below
-greatest_is n f None e = rw e
-greatest_is n f (Some m) (most, (k, l, e)) =
-    le_antisymm (rw e (at_most-greatest n f k l)) (greatest-at_most n f m most)
+one_more f n e p = rw add-one (p ∙ rw e)
+
+pub loop-free_time-init : goal.loop-free_time-init
+unfolding greatest_below
+loop-free_time-init c = refl
+
+pub loop-free_time-preserved : goal.loop-free_time-preserved
+loop-free_time-preserved c =
+    let o = c.loop-free_time in
+    let (there, beside, time, begin) =
+    zip_turn c.args.free.now c.args.begins.now o.yielded c.into_iter-free_time-iterator.result o.free_time-iterator c.next.new.self _ (search rules)
+    (search rules) o.yielded_by (c.in-Some.free_time, c.in-Some.begin) c.in-Some.is c.next.ensures.steps in
+    rw length-append (one_more _ (length o.yielded) o.invariant (rw (time 0, begin 0) at c.later-longest.ensures))
 
 pub returns : goal.returns
 returns c =
-    let free = c.args.free.now in
-    let begins = c.args.begins.now in
-    let n : ℕ = min (length free) (length begins) in
-    let told : MatchOption c.max.result (n ≡ 0)
-    (λ m. ((k : ℕ) → k < n → slice_index free k - slice_index begins k ≤ m) × ((k : ℕ) × (k < n) × (m ≡ slice_index free k - slice_index begins k))) = Prim.search rules in
-    rw c.unwrap_or.ensures (greatest_is _ _ _ told)
+    let o = c.loop-free_time in
+    let done =
+    zip_end c.args.free.now c.args.begins.now o.yielded c.into_iter-free_time-iterator.result o.free_time-iterator c.next.new.self _ (search rules)
+    (search rules) o.yielded_by c.in-None.is c.next.ensures.steps in
+    rw done at o.invariant
