@@ -53,6 +53,6 @@ pub fn train_record(file: &[u8], k: u64) -> &[u8]
 {
     match record_place(file, k) {
         Ok(place) => &file[place.start..place.start + place.length],
-        Err(_) => &[],
+        Err(_) => &file[..0],
     }
 }

@@ -38,3 +38,36 @@ pub struct Train {
     pub stops: [u16; 64],
     pub dwells: [u16; 64],
 }
+
+impl Line {
+    // What stands for a line where there is none.
+    pub const NONE: Line = Line {
+        points: 0,
+        step: 0,
+        set_up: 0,
+        release: 0,
+        limit_count: 0,
+        limit_points: [0; 64],
+        limits: [0; 64],
+        block_count: 0,
+        block_starts: [0; 64],
+        block_ends: [0; 64],
+        balise_count: 0,
+        balise_points: [0; 64],
+        balise_metres: [0; 64],
+    };
+}
+
+impl Train {
+    // What stands for a train where there is none.
+    pub const NONE: Train = Train {
+        class: TrainClass(0),
+        length: 0,
+        band_count: 0,
+        tops: [0; 64],
+        rates: [0; 64],
+        stop_count: 0,
+        stops: [0; 64],
+        dwells: [0; 64],
+    };
+}
