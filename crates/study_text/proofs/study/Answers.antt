@@ -1,7 +1,8 @@
 -- `study` meets its contract: the file's columns, and the sheet's text of them.
-use Rattle.std.proofs.Common.{◌≡◌, ◌∙◌, sym, length, take, length-take-le}
+use Rattle.std.proofs.Common.{rules, ◌≡◌, ◌∙◌, sym, length, take, length-take-le}
 use Rattle.std.proofs.lemmas.Result.{IfOk-from_err, IfOk-weaker}
-use Rattle.refusals.specs.Number.{number}
+use Rattle.std.specs.Prelude.{Ok}
+use Rattle.refusals.specs.Number.{number, refused_by}
 use Rattle.refusals.proofs.Passing.{passed_on, numbered}
 use Rattle.rules.specs.Text.{sheet_text}
 use Rattle.text.specs.Text.{rows_text}
@@ -14,8 +15,9 @@ pub returns-in_err-trains : goal.returns-in_err-trains
 returns-in_err-trains c =
     let file = c.args.file.now in
     let r = c.in_err-trains.field-0.0 in
+    let own : number r ≡ refused_by c.rows.result = Prim.search rules in
     let told : number r ≡ study_refusal file (length c.args.text.now)
-    = study_refused file _ (in_64 file c.in_err-trains.ensures.refusal) (numbered r) in
+    = study_refused file _ (in_64 file (own ∙ c.rows.ensures.refusal)) (numbered r) in
     record {
       refusal = passed_on _ _ c.from_residual.ensures.1 ∙ told;
       count = IfOk-from_err _ _ c.from_residual.ensures.0;
@@ -26,7 +28,8 @@ returns-in_err-trains c =
 pub slice_bounds-starts-end : goal.slice_bounds-starts-end
 slice_bounds-starts-end c =
     let file = c.args.file.now in
-    let e = c.in_ok-trains.ensures in
+    let told : c.rows.result ≡ Ok c.in_ok-trains.trains = Prim.search rules in
+    let e = rw told at c.rows.ensures in
     let ok = sym (in_64 file e.refusal) in
     let z = sym e.refusal in
     (columns_long file ok z e.trains e.starts e.runs e.blocks).0
@@ -34,7 +37,8 @@ slice_bounds-starts-end c =
 pub slice_bounds-put_sheet-end : goal.slice_bounds-put_sheet-end
 slice_bounds-put_sheet-end c =
     let file = c.args.file.now in
-    let e = c.in_ok-trains.ensures in
+    let told : c.rows.result ≡ Ok c.in_ok-trains.trains = Prim.search rules in
+    let e = rw told at c.rows.ensures in
     let ok = sym (in_64 file e.refusal) in
     let z = sym e.refusal in
     sym (length-take-le _ _ (columns_long file ok z e.trains e.starts e.runs e.blocks).0)
@@ -42,7 +46,8 @@ slice_bounds-put_sheet-end c =
 pub slice_bounds-runs-end : goal.slice_bounds-runs-end
 slice_bounds-runs-end c =
     let file = c.args.file.now in
-    let e = c.in_ok-trains.ensures in
+    let told : c.rows.result ≡ Ok c.in_ok-trains.trains = Prim.search rules in
+    let e = rw told at c.rows.ensures in
     let ok = sym (in_64 file e.refusal) in
     let z = sym e.refusal in
     (columns_long file ok z e.trains e.starts e.runs e.blocks).1
@@ -50,7 +55,8 @@ slice_bounds-runs-end c =
 pub slice_bounds-put_sheet-end-2 : goal.slice_bounds-put_sheet-end-2
 slice_bounds-put_sheet-end-2 c =
     let file = c.args.file.now in
-    let e = c.in_ok-trains.ensures in
+    let told : c.rows.result ≡ Ok c.in_ok-trains.trains = Prim.search rules in
+    let e = rw told at c.rows.ensures in
     let ok = sym (in_64 file e.refusal) in
     let z = sym e.refusal in
     sym (length-take-le _ _ (columns_long file ok z e.trains e.starts e.runs e.blocks).1)
@@ -58,7 +64,8 @@ slice_bounds-put_sheet-end-2 c =
 pub slice_bounds-blocks-end : goal.slice_bounds-blocks-end
 slice_bounds-blocks-end c =
     let file = c.args.file.now in
-    let e = c.in_ok-trains.ensures in
+    let told : c.rows.result ≡ Ok c.in_ok-trains.trains = Prim.search rules in
+    let e = rw told at c.rows.ensures in
     let ok = sym (in_64 file e.refusal) in
     let z = sym e.refusal in
     (columns_long file ok z e.trains e.starts e.runs e.blocks).2
@@ -66,7 +73,8 @@ slice_bounds-blocks-end c =
 pub slice_bounds-put_sheet-end-3 : goal.slice_bounds-put_sheet-end-3
 slice_bounds-put_sheet-end-3 c =
     let file = c.args.file.now in
-    let e = c.in_ok-trains.ensures in
+    let told : c.rows.result ≡ Ok c.in_ok-trains.trains = Prim.search rules in
+    let e = rw told at c.rows.ensures in
     let ok = sym (in_64 file e.refusal) in
     let z = sym e.refusal in
     sym (length-take-le _ _ (columns_long file ok z e.trains e.starts e.runs e.blocks).2)
@@ -74,7 +82,8 @@ slice_bounds-put_sheet-end-3 c =
 pub returns-clause-refusal : goal.returns-clause-refusal
 returns-clause-refusal c =
     let file = c.args.file.now in
-    let e = c.in_ok-trains.ensures in
+    let told : c.rows.result ≡ Ok c.in_ok-trains.trains = Prim.search rules in
+    let e = rw told at c.rows.ensures in
     let ok = sym (in_64 file e.refusal) in
     let z = sym e.refusal in
     study-number file ok z e.trains e.starts e.runs e.blocks c.args.text.now c.put_sheet.ensures.refusal
@@ -82,7 +91,8 @@ returns-clause-refusal c =
 pub returns-clause-count : goal.returns-clause-count
 returns-clause-count c =
     let file = c.args.file.now in
-    let e = c.in_ok-trains.ensures in
+    let told : c.rows.result ≡ Ok c.in_ok-trains.trains = Prim.search rules in
+    let e = rw told at c.rows.ensures in
     let ok = sym (in_64 file e.refusal) in
     let z = sym e.refusal in
     IfOk-weaker c.put_sheet.result
@@ -92,7 +102,8 @@ returns-clause-count c =
 pub returns-clause-text : goal.returns-clause-text
 returns-clause-text c =
     let file = c.args.file.now in
-    let e = c.in_ok-trains.ensures in
+    let told : c.rows.result ≡ Ok c.in_ok-trains.trains = Prim.search rules in
+    let e = rw told at c.rows.ensures in
     let ok = sym (in_64 file e.refusal) in
     let z = sym e.refusal in
     study_bytes file ok z e.trains e.starts e.runs e.blocks c.args.text.now c.put_sheet.ensures.bytes
@@ -100,7 +111,8 @@ returns-clause-text c =
 pub returns-clause-least : goal.returns-clause-least
 returns-clause-least c =
     let file = c.args.file.now in
-    let e = c.in_ok-trains.ensures in
+    let told : c.rows.result ≡ Ok c.in_ok-trains.trains = Prim.search rules in
+    let e = rw told at c.rows.ensures in
     let ok = sym (in_64 file e.refusal) in
     let z = sym e.refusal in
     let least = least_kept file ok z e.trains e.starts e.runs e.blocks e.least in
