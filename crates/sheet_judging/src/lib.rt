@@ -37,7 +37,7 @@ fn all_ordered(begins: &[u64], ends: &[u64]) -> bool
 pub fn times_kept(begins: &[u64], ends: &[u64]) -> bool
     ensures { result ≡ times_kept begins.now ends.now }
 {
-    // By numbers: a zip asks at each step whether either slice has ended, and a path takes a tenth longer.
+    // By numbers: a zip asks at each step whether either slice has ended, and a path takes more instructions.
     for i in 0..begins.len().min(ends.len()) {
         if ends[i] <= begins[i] {
             return false;

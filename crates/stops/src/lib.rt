@@ -46,7 +46,7 @@ pub fn stop_ahead(stops: &[u16], before: Option<Stop>, i: usize) -> Option<Stop>
 }
 
 // The point of a stop, or `end` where no stop is left. A loop over the points tests this number alone at each: to test the stop itself makes it
-// half as long again.
+// a third to a half longer.
 pub fn point_of(stop: Option<Stop>, end: usize) -> usize
     ensures { result ≡ point_of stop end }
 {
